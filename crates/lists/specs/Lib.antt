@@ -1,0 +1,5 @@
+pub mod Members
+pub mod Stores
+pub mod Moves
+pub mod Choice
+pub mod Signed

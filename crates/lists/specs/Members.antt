@@ -1,0 +1,290 @@
+-- Lists: membership, filter, flatMap, strictly increasing lists, insertion sort, the pigeonhole fact. Assumes nothing.
+use mathlib.Core.Path.{_≡_, refl, sym, ap, ap₂, subst, _∙_}
+use mathlib.Core.Logic.{_⊎_, inl, inr, ⊎-elim, _≢_}
+use mathlib.Core.Bool.{Bool, true, false, cond}
+use mathlib.Core.List.{List, [], _∷_, _++_, map, append-assoc}
+use Prim.Native.Nat.{ℕ, zero, suc, _+_, _≤_, _<_}
+use native.Mathlib.Omega.{arith}
+use native.Mathlib.Decide.{ℕ-discrete}
+use lib.Dec.{T}
+use lib.ListN.{length, getD}
+
+module _ {A : Type 0} where
+  infix 40 _∈_
+  abbrev pub _∈_ : A → List A → Type 0
+  x ∈ [] = ⊥
+  x ∈ (y ∷ l) = (x ≡ y) ⊎ (x ∈ l)
+
+  abbrev pub keep : Bool → A → List A → List A
+  keep true x l = x ∷ l
+  keep false x l = l
+
+  abbrev pub filter : (A → Bool) → List A → List A
+  filter f [] = []
+  filter f (x ∷ l) = keep (f x) x (filter f l)
+
+  pub keep-out : (b : Bool) (x : A) (l : List A) (y : A) → y ∈ keep b x l → ((y ≡ x) × T b) ⊎ (y ∈ l)
+  keep-out true x l y (inl e) = inl (e, tt)
+  keep-out true x l y (inr m) = inr m
+  keep-out false x l y m = inr m
+
+  pub keep-head : (b : Bool) (x : A) (l : List A) → T b → x ∈ keep b x l
+  keep-head true x l t = inl refl
+  keep-head false x l t = absurd t
+
+  pub keep-tail : (b : Bool) (x : A) (l : List A) (y : A) → y ∈ l → y ∈ keep b x l
+  keep-tail true x l y m = inr m
+  keep-tail false x l y m = m
+
+  pub keep-yes : (b : Bool) (x : A) (l : List A) → T b → keep b x l ≡ x ∷ l
+  keep-yes true x l t = refl
+  keep-yes false x l t = absurd t
+
+  pub keep-no : (b : Bool) (x : A) (l : List A) → (T b → ⊥) → keep b x l ≡ l
+  keep-no true x l n = absurd (n tt)
+  keep-no false x l n = refl
+
+  pub filter-none : (f : A → Bool) (l : List A) → ((y : A) → y ∈ l → T (f y) → ⊥) → filter f l ≡ []
+  filter-none f [] h = refl
+  filter-none f (x ∷ l) h = keep-no (f x) x (filter f l) (h x (inl refl)) ∙ filter-none f l (λ y m. h y (inr m))
+
+  pub filter-out : (f : A → Bool) (l : List A) (y : A) → y ∈ filter f l → (y ∈ l) × T (f y)
+  filter-out f [] y m = absurd m
+  filter-out f (x ∷ l) y m =
+      ⊎-elim (λ q. (inl (q .0), subst (λ z. T (f z)) (sym (q .0)) (q .1))) (λ k. (inr (filter-out f l y k .0), filter-out f l y k .1)) (keep-out (f x) x (filter f l) y m)
+
+  pub getD-in : (l : List A) (i : ℕ) (d : A) → i < length l → getD l i d ∈ l
+  getD-in [] i d h = absurd (omega arith)
+  getD-in (x ∷ l) zero d h = inl refl
+  getD-in (x ∷ l) (suc i) d h = inr (getD-in l i d (omega arith))
+
+  pub filter-in : (f : A → Bool) (l : List A) (y : A) → y ∈ l → T (f y) → y ∈ filter f l
+  filter-in f [] y m t = absurd m
+  filter-in f (x ∷ l) y (inl e) t = subst (λ z. z ∈ keep (f x) x (filter f l)) (sym e) (keep-head (f x) x (filter f l) (subst (λ z. T (f z)) e t))
+  filter-in f (x ∷ l) y (inr m) t = keep-tail (f x) x (filter f l) y (filter-in f l y m t)
+
+  pub append-out : (l m : List A) (y : A) → y ∈ (l ++ m) → (y ∈ l) ⊎ (y ∈ m)
+  append-out [] m y h = inr h
+  append-out (x ∷ l) m y (inl e) = inl (inl e)
+  append-out (x ∷ l) m y (inr h) = ⊎-elim (λ a. inl (inr a)) inr (append-out l m y h)
+
+  pub append-left : (l m : List A) (y : A) → y ∈ l → y ∈ (l ++ m)
+  append-left [] m y h = absurd h
+  append-left (x ∷ l) m y (inl e) = inl e
+  append-left (x ∷ l) m y (inr h) = inr (append-left l m y h)
+
+  pub append-right : (l m : List A) (y : A) → y ∈ m → y ∈ (l ++ m)
+  append-right [] m y h = h
+  append-right (x ∷ l) m y h = inr (append-right l m y h)
+
+  -- each element stands before all later ones
+  abbrev pub Increasing : (A → A → Type 0) → List A → Type 0
+  Increasing R [] = Unit {0}
+  Increasing R (x ∷ l) = ((y : A) → y ∈ l → R x y) × Increasing R l
+
+  pub increasing-append : (R : A → A → Type 0) (l m : List A) → Increasing R l → Increasing R m → ((x y : A) → x ∈ l → y ∈ m → R x y) → Increasing R (l ++ m)
+  increasing-append R [] m i j h = j
+  increasing-append R (x ∷ l) m i j h =
+      ((λ y k. ⊎-elim (i .0 y) (h x y (inl refl)) (append-out l m y k)), increasing-append R l m (i .1) j (λ u v a b. h u v (inr a) b))
+
+  pub increasing-keep : (R : A → A → Type 0) (b : Bool) (x : A) (l : List A) → ((y : A) → y ∈ l → R x y) → Increasing R l → Increasing R (keep b x l)
+  increasing-keep R true x l h i = (h, i)
+  increasing-keep R false x l h i = i
+
+  pub increasing-filter : (R : A → A → Type 0) (f : A → Bool) (l : List A) → Increasing R l → Increasing R (filter f l)
+  increasing-filter R f [] i = tt
+  increasing-filter R f (x ∷ l) i = increasing-keep R (f x) x (filter f l) (λ y m. i .0 y (filter-out f l y m .0)) (increasing-filter R f l (i .1))
+
+module _ {A B : Type 0} where
+  abbrev pub flatMap : (A → List B) → List A → List B
+  flatMap g [] = []
+  flatMap g (x ∷ l) = g x ++ flatMap g l
+
+  pub flatMap-append : (g : A → List B) (l m : List A) → flatMap g (l ++ m) ≡ flatMap g l ++ flatMap g m
+  flatMap-append g [] m = refl
+  flatMap-append g (x ∷ l) m = ap (λ t. g x ++ t) (flatMap-append g l m) ∙ sym (append-assoc (g x) (flatMap g l) (flatMap g m))
+
+  pub flatMap-out : (g : A → List B) (l : List A) (y : B) → y ∈ flatMap g l → (x : A) × (x ∈ l) × (y ∈ g x)
+  flatMap-out g [] y m = absurd m
+  flatMap-out g (x ∷ l) y m =
+      ⊎-elim (λ k. (x, inl refl, k)) (λ k. let r = flatMap-out g l y k in (r .0, inr (r .1), r .2)) (append-out (g x) (flatMap g l) y m)
+
+  pub flatMap-in : (g : A → List B) (l : List A) (x : A) (y : B) → x ∈ l → y ∈ g x → y ∈ flatMap g l
+  flatMap-in g [] x y m k = absurd m
+  flatMap-in g (z ∷ l) x y (inl e) k = append-left (g z) (flatMap g l) y (subst (λ w. y ∈ g w) e k)
+  flatMap-in g (z ∷ l) x y (inr m) k = append-right (g z) (flatMap g l) y (flatMap-in g l x y m k)
+
+  pub map-out : (f : A → B) (l : List A) (y : B) → y ∈ map f l → (x : A) × (x ∈ l) × (y ≡ f x)
+  map-out f [] y m = absurd m
+  map-out f (x ∷ l) y (inl e) = (x, inl refl, e)
+  map-out f (x ∷ l) y (inr m) = let r = map-out f l y m in (r .0, inr (r .1), r .2)
+
+  pub map-in : (f : A → B) (l : List A) (x : A) → x ∈ l → f x ∈ map f l
+  map-in f [] x m = absurd m
+  map-in f (z ∷ l) x (inl e) = inl (ap f e)
+  map-in f (z ∷ l) x (inr m) = inr (map-in f l x m)
+
+  -- flatMap of a list increasing in R is increasing in S, where each part is and R between two elements gives S between their parts
+  pub increasing-flatMap : (R : A → A → Type 0) (S : B → B → Type 0) (g : A → List B) (l : List A)
+      → ((x : A) → x ∈ l → Increasing S (g x)) → ((x y : A) → R x y → (p q : B) → p ∈ g x → q ∈ g y → S p q) → Increasing R l → Increasing S (flatMap g l)
+  increasing-flatMap R S g [] parts across i = tt
+  increasing-flatMap R S g (x ∷ l) parts across i =
+      increasing-append S (g x) (flatMap g l) (parts x (inl refl)) (increasing-flatMap R S g l (λ y m. parts y (inr m)) across (i .1))
+      (λ p q a b. let r = flatMap-out g l q b in across x (r .0) (i .0 (r .0) (r .1)) p q a (r .2))
+
+  pub increasing-map : (R : A → A → Type 0) (S : B → B → Type 0) (f : A → B) (l : List A) → ((x y : A) → R x y → S (f x) (f y)) → Increasing R l → Increasing S (map f l)
+  increasing-map R S f [] h i = tt
+  increasing-map R S f (x ∷ l) h i =
+      ((λ y m. let r = map-out f l y m in subst (S (f x)) (sym (r .2)) (h x (r .0) (i .0 (r .0) (r .1)))), increasing-map R S f l h (i .1))
+
+-- the pigeonhole fact, and that an increasing list is known by its members
+module _ {A : Type 0} where
+  less : (m : List A) (x : A) → x ∈ m → List A
+  less [] x k = []
+  less (y ∷ m) x (inl e) = m
+  less (y ∷ m) x (inr k) = y ∷ less m x k
+
+  less-length : (m : List A) (x : A) (k : x ∈ m) → length m ≡ suc (length (less m x k))
+  unfolding less
+  less-length [] x k = absurd k
+  less-length (y ∷ m) x (inl e) = refl
+  less-length (y ∷ m) x (inr k) = ap suc (less-length m x k)
+
+  less-other : (m : List A) (x : A) (k : x ∈ m) (z : A) → z ≢ x → z ∈ m → z ∈ less m x k
+  unfolding less
+  less-other [] x k z n h = absurd h
+  less-other (y ∷ m) x (inl e) z n (inl d) = absurd (n (d ∙ sym e))
+  less-other (y ∷ m) x (inl e) z n (inr h) = h
+  less-other (y ∷ m) x (inr k) z n (inl d) = inl d
+  less-other (y ∷ m) x (inr k) z n (inr h) = inr (less-other m x k z n h)
+
+  pub pigeonhole : (l m : List A) → Increasing (λ x y. x ≢ y) l → ((x : A) → x ∈ l → x ∈ m) → length l ≤ length m
+  pigeonhole [] m i h = omega arith
+  pigeonhole (x ∷ l) m i h =
+      let k = h x (inl refl) in
+      let r = pigeonhole l (less m x k) (i .1) (λ z a. less-other m x k z (λ e. i .0 z a (sym e)) (h z (inr a))) in
+      omega (arith, less-length m x k, r)
+
+  pub increasing-distinct : (R : A → A → Type 0) → ((x y : A) → R x y → R y x → ⊥) → (l : List A) → Increasing R l → Increasing (λ x y. x ≢ y) l
+  increasing-distinct R asym [] i = tt
+  increasing-distinct R asym (x ∷ l) i =
+      ((λ y m e. let h = subst (R x) (sym e) (i .0 y m) in asym x x h h), increasing-distinct R asym l (i .1))
+
+  pub increasing-weaken : (R S : A → A → Type 0) (l : List A) → ((x y : A) → x ∈ l → y ∈ l → R x y → S x y) → Increasing R l → Increasing S l
+  increasing-weaken R S [] h i = tt
+  increasing-weaken R S (x ∷ l) h i =
+      ((λ y m. h x y (inl refl) (inr m) (i .0 y m)), increasing-weaken R S l (λ u v a b. h u v (inr a) (inr b)) (i .1))
+
+  pub increasing-unique : (R : A → A → Type 0) → ((x y : A) → R x y → R y x → ⊥) → (l m : List A) → Increasing R l → Increasing R m
+      → ((x : A) → x ∈ l → x ∈ m) → ((x : A) → x ∈ m → x ∈ l) → l ≡ m
+  increasing-unique R asym [] [] i j f g = refl
+  increasing-unique R asym [] (y ∷ m) i j f g = absurd (g y (inl refl))
+  increasing-unique R asym (x ∷ l) [] i j f g = absurd (f x (inl refl))
+  increasing-unique R asym (x ∷ l) (y ∷ m) i j f g = ap₂ _∷_ e (increasing-unique R asym l m (i .1) (j .1) f′ g′)
+    where
+      heads : (x ≡ y) ⊎ (x ∈ m) → (y ≡ x) ⊎ (y ∈ l) → x ≡ y
+      heads (inl e) b = e
+      heads (inr a) (inl e) = sym e
+      heads (inr a) (inr b) = absurd (asym x y (i .0 y b) (j .0 x a))
+
+      e : x ≡ y
+      e = heads (f x (inl refl)) (g y (inl refl))
+
+      f′ : (z : A) → z ∈ l → z ∈ m
+      f′ z k = ⊎-elim (λ d. absurd (asym x x (subst (R x) (d ∙ sym e) (i .0 z k)) (subst (R x) (d ∙ sym e) (i .0 z k)))) (λ h. h) (f z (inr k))
+
+      g′ : (z : A) → z ∈ m → z ∈ l
+      g′ z k = ⊎-elim (λ d. absurd (asym y y (subst (R y) (d ∙ e) (j .0 z k)) (subst (R y) (d ∙ e) (j .0 z k)))) (λ h. h) (g z (inr k))
+
+-- insertion sort by a test
+module _ {A : Type 0} (before : A → A → Bool) where
+  unfoldable pub insert : A → List A → List A
+  insert x [] = x ∷ []
+  insert x (y ∷ l) = cond (before x y) (x ∷ y ∷ l) (y ∷ insert x l)
+
+  unfoldable pub sort : List A → List A
+  sort [] = []
+  sort (x ∷ l) = insert x (sort l)
+
+  pub insert-out : (x : A) (l : List A) (y : A) → y ∈ insert x l → (y ≡ x) ⊎ (y ∈ l)
+  unfolding insert
+  insert-out x [] y m = m
+  insert-out x (z ∷ l) y m = go (insert-out x l y) (before x z) m
+    where
+      go : (y ∈ insert x l → (y ≡ x) ⊎ (y ∈ l)) → (b : Bool) → y ∈ cond b (x ∷ z ∷ l) (z ∷ insert x l) → (y ≡ x) ⊎ (y ∈ (z ∷ l))
+      go rec true k = k
+      go rec false (inl e) = inr (inl e)
+      go rec false (inr k) = ⊎-elim inl (λ h. inr (inr h)) (rec k)
+
+  pub insert-in : (x : A) (l : List A) (y : A) → (y ≡ x) ⊎ (y ∈ l) → y ∈ insert x l
+  unfolding insert
+  insert-in x [] y m = m
+  insert-in x (z ∷ l) y m = go (insert-in x l y) (before x z) m
+    where
+      go : ((y ≡ x) ⊎ (y ∈ l) → y ∈ insert x l) → (b : Bool) → (y ≡ x) ⊎ (y ∈ (z ∷ l)) → y ∈ cond b (x ∷ z ∷ l) (z ∷ insert x l)
+      go rec true k = k
+      go rec false (inl e) = inr (rec (inl e))
+      go rec false (inr (inl e)) = inl e
+      go rec false (inr (inr h)) = inr (rec (inr h))
+
+  pub sort-out : (l : List A) (y : A) → y ∈ sort l → y ∈ l
+  unfolding sort
+  sort-out [] y m = m
+  sort-out (x ∷ l) y m = ⊎-elim inl (λ k. inr (sort-out l y k)) (insert-out x (sort l) y m)
+
+  pub sort-in : (l : List A) (y : A) → y ∈ l → y ∈ sort l
+  unfolding sort
+  sort-in [] y m = m
+  sort-in (x ∷ l) y (inl e) = insert-in x (sort l) y (inl e)
+  sort-in (x ∷ l) y (inr m) = insert-in x (sort l) y (inr (sort-in l y m))
+
+  module _ (lt : A → A → Type 0) (yes-lt : (x y : A) → T (before x y) → lt x y) (no-lt : (x y : A) → (T (before x y) → ⊥) → x ≢ y → lt y x)
+      (trans : (x y z : A) → lt x y → lt y z → lt x z) where
+    increasing-insert : (x : A) (l : List A) → ((y : A) → y ∈ l → x ≢ y) → Increasing lt l → Increasing lt (insert x l)
+    unfolding insert
+    increasing-insert x [] n i = ((λ y m. absurd m), tt)
+    increasing-insert x (z ∷ l) n i = go (increasing-insert x l (λ y m. n y (inr m)) (i .1)) (before x z) refl
+      where
+        go : Increasing lt (insert x l) → (b : Bool) → before x z ≡ b → Increasing lt (cond b (x ∷ z ∷ l) (z ∷ insert x l))
+        go rec true e =
+            let h : lt x z = yes-lt x z (subst T (sym e) tt) in
+            ((λ y. ⊎-elim (λ d. subst (lt x) (sym d) h) (λ m. trans x z y h (i .0 y m))), i)
+        go rec false e =
+            let h : lt z x = no-lt x z (λ t. subst T e t) (n z (inl refl)) in
+            ((λ y m. ⊎-elim (λ d. subst (lt z) (sym d) h) (i .0 y) (insert-out x l y m)), rec)
+
+    pub increasing-sort : (l : List A) → Increasing (λ x y. x ≢ y) l → Increasing lt (sort l)
+    unfolding sort
+    increasing-sort [] i = tt
+    increasing-sort (x ∷ l) i = increasing-insert x (sort l) (λ y m. i .0 y (sort-out l y m)) (increasing-sort l (i .1))
+
+-- k, k + 1, ..: n numbers
+abbrev pub numbers : ℕ → ℕ → List ℕ
+numbers k zero = []
+numbers k (suc n) = k ∷ numbers (suc k) n
+
+pub numbers-out : (k n y : ℕ) → y ∈ numbers k n → (k ≤ y) × (y < k + n)
+numbers-out k zero y m = absurd m
+numbers-out k (suc n) y (inl e) = omega arith
+numbers-out k (suc n) y (inr m) = let r = numbers-out (suc k) n y m in omega (arith, r)
+
+pub numbers-in : (k n y : ℕ) → k ≤ y → y < k + n → y ∈ numbers k n
+numbers-in k zero y a b = absurd (omega arith)
+numbers-in k (suc n) y a b = go (numbers-in (suc k) n y) (ℕ-discrete y k)
+  where
+    go : (suc k ≤ y → y < suc k + n → y ∈ numbers (suc k) n) → Dec (y ≡ k) → y ∈ numbers k (suc n)
+    go rec (yes e) = inl e
+    go rec (no d) = inr (rec (omega arith) (omega arith))
+
+pub numbers-length : (k n : ℕ) → length (numbers k n) ≡ n
+numbers-length k zero = refl
+numbers-length k (suc n) = ap suc (numbers-length (suc k) n)
+
+pub numbers-distinct : (k n : ℕ) → Increasing (λ x y. x ≢ y) (numbers k n)
+numbers-distinct k zero = tt
+numbers-distinct k (suc n) = ((λ y m e. absurd (omega (arith, numbers-out (suc k) n y m))), numbers-distinct (suc k) n)
+
+pub getD-numbers : (i n k : ℕ) → k < n → getD (numbers i n) k 0 ≡ i + k
+getD-numbers i zero k h = absurd (omega arith)
+getD-numbers i (suc n) zero h = omega arith
+getD-numbers i (suc n) (suc k) h = getD-numbers (suc i) n k (omega arith) ∙ omega arith
