@@ -79,3 +79,13 @@ contentsWords n check = n ∷ 8 ∷ 6 ∷ check ∷ 0 ∷ 0 ∷ 0 ∷ 0 ∷ []
 -- the image of a list of nodes
 unfoldable pub imageWords : List Body → List ℕ
 imageWords bs = contentsWords (length bs) (checked 0 (flat bs)) ++ flat bs
+
+-- refusal 13, its words on the index: under 8 words, word 1 isn't 8, word 2 isn't 6, n is over 65,535 or more than fits
+unfoldable pub badContents : List ℕ → Bool
+badContents s =
+    ltb (length s) 8 ||
+    (not (eqb (getD s 1 0) 8) ||
+    (not (eqb (getD s 2 0) 6) || (ltb 65535 (nodeCount s) || ltb (length s) (8 + 6 * nodeCount s))))
+
+abbrev pub contentsRefusal : List ℕ → ℕ
+contentsRefusal s = cond (badContents s) 13 0
