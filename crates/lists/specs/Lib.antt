@@ -4,3 +4,4 @@ pub mod Moves
 pub mod Choice
 pub mod Signed
 pub mod Tables
+pub mod Ranges
