@@ -5,3 +5,4 @@ pub mod Choice
 pub mod Signed
 pub mod Tables
 pub mod Ranges
+pub mod Counting
