@@ -9,7 +9,7 @@ use native.Mathlib.Omega.{arith}
 use lib.Dec.{eqb}
 use lib.ListN.{length, length-append}
 use borrow.Author.Tests.{eq-eqb, ne-eqb, eqb-true, eqb-false}
-use Rattle.lists.specs.Members.{filter, keep, numbers, numbers-length}
+use Rattle.lists.specs.Members.{filter, keep, filter-append, filter-short, numbers, numbers-length}
 
 pub or-no : (a b : Bool) → a || b ≡ false → (a ≡ false) × (b ≡ false)
 or-no true b e = let z : _≡_ {A = ℕ} 0 1 = cc in absurd (omega arith)
@@ -55,22 +55,6 @@ module _ {A : Type 0} (f : A → Bool) where
   pub filter-no : (x : A) (l : List A) → f x ≡ false → filter f (x ∷ l) ≡ filter f l
   filter-no x l e = ap (λ (t : Bool). keep t x (filter f l)) e
 
-  keep-append : (t : Bool) (x : A) (l m : List A) → keep t x (l ++ m) ≡ keep t x l ++ m
-  keep-append true x l m = refl
-  keep-append false x l m = refl
-
-  pub filter-append : (l m : List A) → filter f (l ++ m) ≡ filter f l ++ filter f m
-  filter-append [] m = refl
-  filter-append (x ∷ l) m = ap (λ (t : List A). keep (f x) x t) (filter-append l m) ∙ keep-append (f x) x (filter f l) (filter f m)
-
-  keep-le : (t : Bool) (x : A) (l : List A) → length (keep t x l) ≤ suc (length l)
-  keep-le true x l = omega arith
-  keep-le false x l = omega arith
-
-  pub filter-le : (l : List A) → length (filter f l) ≤ length l
-  filter-le [] = omega arith
-  filter-le (x ∷ l) = omega (arith, keep-le (f x) x (filter f l), filter-le l)
-
 pub numbers-more : (a n : ℕ) → numbers a (n + 1) ≡ numbers a n ++ ((a + n) ∷ [])
 numbers-more a zero = ap (λ (k : ℕ). k ∷ []) (sym (add-zero a))
 numbers-more a (suc n) =
@@ -101,7 +85,7 @@ module _ (f : ℕ → Bool) (a : ℕ) where
 
   -- no more pass than there are
   pub count-le : (n : ℕ) → length (filter f (numbers a n)) ≤ n
-  count-le n = omega (arith, filter-le f (numbers a n), numbers-length a n)
+  count-le n = omega (arith, filter-short f (numbers a n), numbers-length a n)
 
   -- and no fewer of more numbers
   count-step : (t : Bool) (n : ℕ) → f (a + n) ≡ t → length (filter f (numbers a n)) ≤ length (filter f (numbers a (n + 1)))

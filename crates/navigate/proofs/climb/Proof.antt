@@ -7,8 +7,8 @@ use Prim.Native.Nat.{ℕ, _+_, _*_, _-_, _≤_}
 use native.Mathlib.Omega.{arith}
 use lib.ListN.{length}
 use denote.Ref.{now}
-use Rattle.lists.specs.Members.{filter}
-use Rattle.lists.specs.Choice.{filter-yes, filter-no, filter-le}
+use Rattle.lists.specs.Members.{filter, filter-short}
+use Rattle.lists.specs.Choice.{filter-yes, filter-no}
 use Rattle.image.specs.Layout.{parentAt}
 use Rattle.navigate.specs.Navigate.{keepsAt}
 use Rattle.navigate.specs.Climb.{chain, badClimb}
@@ -42,7 +42,7 @@ F l = keepsAt (S l) (l .before .before .args .keep)
 -- neither count is above the rank
 bounds : (l : tie.At-loop Inv-loop μ-loop) → (l .loop .len ≤ l .before .before .args .rank) × (l .loop .met ≤ l .before .before .args .rank)
 bounds l =
-    let a = filter-le (F l) (chain (S l) (l .before .before .args .rank)) in
+    let a = filter-short (F l) (chain (S l) (l .before .before .args .rank)) in
     let b = chain-le (S l) (l .before .before .args .rank) in
     (omega arith, omega arith)
 
