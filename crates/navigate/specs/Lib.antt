@@ -2,3 +2,4 @@ pub mod Navigate
 pub mod NavigateLaws
 pub mod Climb
 pub mod ClimbLaws
+pub mod Cases
