@@ -7,3 +7,4 @@ pub mod Bodies
 pub mod Refusals
 pub mod Emit
 pub mod Cases
+pub mod ForestLaws
