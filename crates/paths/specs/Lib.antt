@@ -8,3 +8,5 @@ pub mod Refusals
 pub mod Emit
 pub mod Cases
 pub mod ForestLaws
+pub mod Interval
+pub mod EmitLaws
