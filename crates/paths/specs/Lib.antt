@@ -10,3 +10,5 @@ pub mod Cases
 pub mod ForestLaws
 pub mod Interval
 pub mod EmitLaws
+pub mod SiblingLaws
+pub mod PathLaws
