@@ -12,3 +12,4 @@ pub mod Interval
 pub mod EmitLaws
 pub mod SiblingLaws
 pub mod PathLaws
+pub mod NodeLaws
