@@ -13,3 +13,4 @@ pub mod EmitLaws
 pub mod SiblingLaws
 pub mod PathLaws
 pub mod NodeLaws
+pub mod BodyWalks

@@ -119,10 +119,9 @@ module _ (R : List Row) (start : Row → Bool) where
         (λ p q m k. before-mono (Sibling R) NodeOrder p q (λ x y a b h. inr (((λ u. late q k y b), (λ u. late p m x a)), h)))
         (orphans-increasing R start depth)
 
-    -- a start row alone is a regular path, where there is any
-    pub alone : (p : List ℕ) (a : ℕ) → p ∈ regular R start depth → a ∈ starts R start → (a ∷ []) ∈ regular R start depth
-    alone p a m k =
-        let c = regular-is R start depth p .0 m in
+    -- a start row alone is a regular path, where the depth allows one row
+    pub alone : (a : ℕ) → Within depth (a ∷ []) → a ∈ starts R start → (a ∷ []) ∈ regular R start depth
+    alone a w k =
         let s = starts-is R start a .0 k in
         regular-is R start depth (a ∷ []) .1 (
           record {
@@ -132,7 +131,7 @@ module _ (R : List Row) (start : Row → Bool) where
             linked = λ i h. absurd (omega arith);
             differ = λ i j h l. absurd (omega arith);
           },
-          within-one depth p a (c .0 .some) (c .1),
+          w,
         )
       where
         one : (P : ℕ → Type 0) (a : ℕ) → P a → (i : ℕ) → i < length (a ∷ []) → P (getD (a ∷ []) i 0)
@@ -161,7 +160,7 @@ module _ (R : List Row) (start : Row → Bool) where
             (λ d. inl (inr (
               (
                 (λ u. absurd (early (x ∷ p) m x (inl refl) u)),
-                (λ u. absurd (early (a ∷ []) (alone (x ∷ p) a m (subst (λ l. a ∈ l) (sym e) (r .0))) a (inl refl) u)),
+                (λ u. absurd (early (a ∷ []) (alone a (within-one depth (x ∷ p) a (omega arith) (c .1)) (subst (λ l. a ∈ l) (sym e) (r .0))) a (inl refl) u)),
               ),
               d,
             )))
@@ -217,6 +216,14 @@ module _ (R : List Row) (start : Row → Bool) where
       ⊎-elim (λ c. append-left (regular R start depth) (orphanNodes R start depth o) p (regular-is R start depth p .1 c))
           (λ c. append-right (regular R start depth) (orphanNodes R start depth o) p (orphan-nodes-is o p .1 c)),
     )
+
+    -- a node has a row
+    pub node-some : (o : Orphan) (p : List ℕ) → Node R start depth o p → 0 < length p
+    node-some o p (inl c) = c .0 .some
+    node-some ignore p (inr n) = absurd n
+    node-some error p (inr n) = absurd n
+    node-some adopt p (inr n) = omega (arith, ap length (n .4))
+    node-some root p (inr c) = c .some
 
     -- an orphan node ends in a row of U
     pub orphan-ends : (o : Orphan) (p : List ℕ) → OrphanNode R start depth o p → Unreached R start depth (last p)
