@@ -19,7 +19,7 @@ use Rattle.paths.specs.Rows.{num, par}
 use Rattle.paths.specs.Paths.{last, closes, Orphan, ignore, error, root}
 use Rattle.paths.specs.Nodes.{sorted, starts, regular, orphanRows, tops, orphans, orphanNodes, nodes}
 use Rattle.paths.specs.Bodies.{begins, mkBody, orphanCloses, bodies}
-use Rattle.paths.specs.EmitLaws.{revApp, memb-rev, or-false, last-snoc, init-snoc, rank-absent, emits, bodyIn, Ok}
+use Rattle.paths.specs.EmitLaws.{revApp, memb-rev, or-false, last-snoc, init-snoc, rank-absent, emit-length, emits, bodyIn, Ok}
 use Rattle.paths.specs.SiblingLaws.{sorted-distinct}
 use Rattle.paths.specs.PathLaws.{starts-distinct, unreached-distinct, tops-distinct, tops-is}
 use Rattle.paths.specs.NodeLaws.{early, late, alone, nodes-are, nodes-once, node-some}
@@ -112,12 +112,11 @@ module _ (R : List Row) (start : Row → Bool) where
     closing = closes-is R;
   }
 
-  -- root: a walk over all rows, then one over the rows of U, with ranks from the first's count on
-  pub bodies-root : bodies R start None root
+  two-walks : bodies R start None root
       ≡ emit (mkBody R false) (num R) (par R) (sorted R) (suc (length R)) [] (starts R start) 0 0 1 1
       ++ emit (mkBody R true) (num R) (par R) (orphanRows R start None) (suc (length R)) [] (tops R start None) 0 0 1 (suc (length (regular R start None)))
   unfolding bodies nodes orphanNodes regular orphans levelLimit
-  bodies-root =
+  two-walks =
       sym (ap₂ _++_
       (emits (mkBody R false) (num R) (par R) (sorted R) W (closes R) (nodes-once R start None root) (sorted-distinct R) (suc (length R)) [] [] (starts R start) 0 0 1 [] O 1
       (starts-distinct R start) regular-ok (ap (λ t. t ++ O) (sym (map-same F))) refl
@@ -131,3 +130,14 @@ module _ (R : List Row) (start : Row → Bool) where
 
       O : List (List ℕ)
       O = orphans R start None
+
+  -- root: a walk over all rows, then one over the rows of U, with ranks from the first's count on
+  pub bodies-root : bodies R start None root
+      ≡ (let first : List Body = emit (mkBody R false) (num R) (par R) (sorted R) (suc (length R)) [] (starts R start) 0 0 1 1 in
+      first ++ emit (mkBody R true) (num R) (par R) (orphanRows R start None) (suc (length R)) [] (tops R start None) 0 0 1 (suc (length first)))
+  unfolding regular levelLimit
+  bodies-root =
+      two-walks
+      ∙ ap (λ k. emit (mkBody R false) (num R) (par R) (sorted R) (suc (length R)) [] (starts R start) 0 0 1 1
+      ++ emit (mkBody R true) (num R) (par R) (orphanRows R start None) (suc (length R)) [] (tops R start None) 0 0 1 (suc k))
+      (sym (emit-length (mkBody R false) (num R) (par R) (sorted R) (suc (length R)) [] (starts R start) 0 0 1 1))

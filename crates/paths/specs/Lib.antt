@@ -14,3 +14,4 @@ pub mod SiblingLaws
 pub mod PathLaws
 pub mod NodeLaws
 pub mod BodyWalks
+pub mod AdoptWalks
