@@ -214,6 +214,11 @@ module _ {A B : Type 0} where
   map-cong g h e [] = refl
   map-cong g h e (x ∷ l) = ap₂ _∷_ (e x) (map-cong g h e l)
 
+  -- two functions that agree on the list
+  pub map-agree : (g h : A → B) (l : List A) → ((x : A) → x ∈ l → g x ≡ h x) → map g l ≡ map h l
+  map-agree g h [] e = refl
+  map-agree g h (x ∷ l) e = ap₂ _∷_ (e x (inl refl)) (map-agree g h l (λ y m. e y (inr m)))
+
   abbrev pub flatMap : (A → List B) → List A → List B
   flatMap g [] = []
   flatMap g (x ∷ l) = g x ++ flatMap g l

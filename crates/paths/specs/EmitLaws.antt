@@ -8,12 +8,12 @@ use native.Mathlib.Omega.{arith}
 use lib.Dec.{T, eqb, eqb→eq, eqb-refl}
 use lib.ListN.{length, getD, length-append, length-map}
 use borrow.Author.Tests.{eq-eqb}
-use Rattle.lists.specs.Members.{_∈_, and-out, and-in, is-true, is-false, keep, keep-yes, keep-no, filter, filter-none, filter-out, filter-all, filter-append, filter-filter, filter-map, map-append, map-cong, map-map, flatMap, flatMap-out, map-out, Increasing, increasing-filter}
+use Rattle.lists.specs.Members.{_∈_, and-out, and-in, is-true, is-false, keep, keep-yes, keep-no, filter, filter-none, filter-out, filter-all, filter-append, filter-filter, filter-map, map-append, map-agree, map-cong, map-map, flatMap, flatMap-out, map-out, Increasing, increasing-filter}
 use Rattle.paths.specs.Forest.{memb, node, next, children, unless, forest}
 use Rattle.paths.specs.Emit.{orElse, walk, visit, emit}
 use Rattle.paths.specs.Paths.{init, last, head}
 use Rattle.paths.specs.Bodies.{begins, samePath, rankFrom, rankOf, treeSize, parentRank, rootRank}
-use Rattle.paths.specs.ForestLaws.{forest-length, forest-nil, Short, short-next, short-none}
+use Rattle.paths.specs.ForestLaws.{forest-length, forest-nil, last-below, Short, short-next, short-none}
 use Rattle.paths.specs.Interval.{begins-refl}
 
 pub begins-append : (pre p q : List ℕ) → begins (pre ++ p) (pre ++ q) ≡ begins p q
@@ -134,6 +134,24 @@ module _ {B : Type 0} (mk : ℕ → ℕ → ℕ → ℕ → ℕ → Bool → B) 
       length-append (mk x (suc (length sub)) parent (orElse root k) level (memb (num x) seen) ∷ sub) _
       ∙ ap₂ (λ a b. suc a + b) (emit-length f (num x ∷ seen) (next num par pool seen x) k (orElse root k) (suc level) (suc k)) (emit-length (suc f) seen l parent root level (k + suc (length sub)))
       ∙ sym (forest-length num par pool f seen x l)
+
+  -- what a body says of its row alone, as the number of the row or its numeral, in the order of the paths
+  pub emit-rows : {C : Type 0} (g : B → C) (h : ℕ → C) → ((x size parent root level : ℕ) (closing : Bool) → g (mk x size parent root level closing) ≡ h x)
+      → (f : ℕ) (seen sibs : List ℕ) (parent root level k : ℕ) → map g (emit mk num par pool f seen sibs parent root level k) ≡ map (λ p. h (last p)) (forest num par pool f seen sibs)
+  unfolding emit forest
+  emit-rows g h is zero seen sibs parent root level k = refl
+  emit-rows g h is (suc f) seen [] parent root level k = refl
+  emit-rows g h is (suc f) seen (x ∷ l) parent root level k =
+      let sub = emit mk num par pool f (num x ∷ seen) (next num par pool seen x) k (orElse root k) (suc level) (suc k) in
+      let below = forest num par pool f (num x ∷ seen) (next num par pool seen x) in
+      map-append g (mk x (suc (length sub)) parent (orElse root k) level (memb (num x) seen) ∷ sub) _
+      ∙ ap₂ _++_
+      (ap₂ _∷_ (is x (suc (length sub)) parent (orElse root k) level (memb (num x) seen))
+      (emit-rows g h is f (num x ∷ seen) (next num par pool seen x) k (orElse root k) (suc level) (suc k)
+      ∙ sym (map-map (λ p. h (last p)) (λ p. x ∷ p) below ∙ map-agree (λ p. h (last (x ∷ p))) (λ p. h (last p)) below
+      (λ p m. ap h (last-below num par pool x f (num x ∷ seen) (next num par pool seen x) p m)))))
+      (emit-rows g h is (suc f) seen l parent root level (k + suc (length sub)))
+      ∙ sym (map-append (λ p. h (last p)) (node x below) (forest num par pool (suc f) seen l))
 
   walk-agree : (g h : ℕ → ℕ → List B) (l : List ℕ) (k : ℕ) → ((x : ℕ) → x ∈ l → (k : ℕ) → g x k ≡ h x k) → walk mk num par pool g l k ≡ walk mk num par pool h l k
   walk-agree g h [] k e = refl

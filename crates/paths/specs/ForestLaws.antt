@@ -209,9 +209,9 @@ module _ (num par : ℕ → ℕ) (pool : List ℕ) where
   pub all-paths : (f : ℕ) → suc (length pool) ≤ f → (sibs p : List ℕ) → ((x : ℕ) → x ∈ sibs → x ∈ pool) → (p ∈ forest num par pool f [] sibs) ↔ Path [] sibs p
   all-paths f h sibs p sub = ((λ m. sound f [] sibs p m .0), (λ g. complete f [] sibs p g (omega (arith, bounded [] sibs p sub g))))
 
-  last-cons : (y : ℕ) (f : ℕ) (seen sibs q : List ℕ) → q ∈ forest num par pool f seen sibs → last (y ∷ q) ≡ last q
-  last-cons y f seen sibs [] m = absurd (some-not-nil seen sibs (sound f seen sibs [] m .0))
-  last-cons y f seen sibs (z ∷ q) m = refl
+  pub last-below : (y : ℕ) (f : ℕ) (seen sibs q : List ℕ) → q ∈ forest num par pool f seen sibs → last (y ∷ q) ≡ last q
+  last-below y f seen sibs [] m = absurd (some-not-nil seen sibs (sound f seen sibs [] m .0))
+  last-below y f seen sibs (z ∷ q) m = refl
 
   -- every row of a listed path ends a listed path
   abbrev Ends : ℕ → List (List ℕ) → Type 0
@@ -224,7 +224,7 @@ module _ (num par : ℕ → ℕ) (pool : List ℕ) where
       let r = rec k in (
         y ∷ r .0,
         flatMap-in (λ x. node x (forest num par pool f (num x ∷ seen) (next num par pool seen x))) sibs y (y ∷ r .0) m (inr (map-in (λ p. y ∷ p) (forest num par pool f (num y ∷ seen) (next num par pool seen y)) (r .0) (r .1))),
-        last-cons y f (num y ∷ seen) (next num par pool seen y) (r .0) (r .1) ∙ r .2,
+        last-below y f (num y ∷ seen) (next num par pool seen y) (r .0) (r .1) ∙ r .2,
       )
 
   pub reached : (f : ℕ) (seen sibs p : List ℕ) → p ∈ forest num par pool f seen sibs → (x : ℕ) → x ∈ p → Ends x (forest num par pool f seen sibs)
