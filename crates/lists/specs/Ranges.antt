@@ -1,4 +1,4 @@
--- Tests on the numbers from 1 to n: one that holds at all of them, and the largest at which one holds. Assumes nothing.
+-- Tests on the numbers from 1 to n: a test that holds at all of them, and the largest number at which a test holds. Assumes nothing.
 use mathlib.Core.Path.{_≡_, refl, sym, ap, _∙_}
 use mathlib.Core.Bool.{Bool, true, false, cond, _&&_}
 use Prim.Native.Nat.{ℕ, zero, suc, _+_, _-_, _≤_, _<_}

@@ -1,0 +1,2 @@
+pub mod IndexCheck
+pub mod RankLaws
