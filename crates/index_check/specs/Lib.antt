@@ -1,2 +1,3 @@
 pub mod IndexCheck
 pub mod RankLaws
+pub mod CheckLaws
