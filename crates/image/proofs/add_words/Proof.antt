@@ -1,3 +1,4 @@
+-- `add_words` meets its contract, is safe and ends. Assumes nothing.
 use Rattle.image.specs.Layout.{checked}
 use lib.Seq.{drop-cons}
 use lib.ListN.{length, drop, drop-of-length-le}
@@ -19,31 +20,24 @@ Inv-loop words check sum₀ i₀ sum i = (i ≤ length words) × (checked sum (d
 abbrev μ-loop : tie.MeasureT-loop
 μ-loop words check sum₀ i₀ sum i = length words - i
 
--- src/lib.rt:539:5
 loop-holds : tie.Need-loop-holds Inv-loop μ-loop
 loop-holds c = (omega arith, refl)
 
--- src/lib.rt:540:47
 mul-wrapping-add-u32 : tie.Need-mul-wrapping-add-u32 Inv-loop μ-loop
 mul-wrapping-add-u32 c = omega arith
 
--- src/lib.rt:540:47
 shared-slice-read-wrapping-add-u32 : tie.Need-shared-slice-read-wrapping-add-u32 Inv-loop μ-loop
 shared-slice-read-wrapping-add-u32 c = omega arith
 
--- src/lib.rt:540:9
 wrapping-add-u32-requires : tie.Need-wrapping-add-u32-requires Inv-loop μ-loop
 wrapping-add-u32-requires c κs = tt
 
--- src/lib.rt:541:9
 add-i : tie.Need-add-i Inv-loop μ-loop
 add-i c = omega arith
 
--- src/lib.rt:539:5
 loop-less : tie.Need-loop-less Inv-loop μ-loop
 loop-less c = omega arith
 
--- src/lib.rt:539:5
 loop-again : tie.Need-loop-again Inv-loop μ-loop
 unfolding checked
 loop-again c =
@@ -56,7 +50,6 @@ loop-again c =
           ∙ l .loop .inv .1),
     )
 
--- src/lib.rt:534:1
 returns : tie.Need-returns Inv-loop μ-loop
 unfolding checked
 returns c =

@@ -1,3 +1,4 @@
+-- `closing_of` meets its contract, is safe and ends. Assumes nothing.
 use lib.Dec.{eqb}
 use lib.Bits.{and-mask}
 use Prim.Native.Nat.{ℕ, _/_, _^_}
@@ -8,7 +9,6 @@ use Rattle.image.proofs.closing_of.Tie as tie
 use Rattle.image.proofs.closing_of.Reads as reads
 use Rattle.image.proofs.closing_of.Lts as lts
 
--- src/lib.rt:359:1
 returns : tie.Need-returns
 returns c = ap (λ (n : ℕ). eqb n 1) (and-mask (c .args .word / 2 ^ 30) 1)
 

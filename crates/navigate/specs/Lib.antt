@@ -1,0 +1,4 @@
+pub mod Navigate
+pub mod NavigateLaws
+pub mod Climb
+pub mod ClimbLaws
