@@ -11,8 +11,10 @@ use borrow.Author.Tests.{leb-true, eqb-true, eq-eqb, ne-eqb, not-true}
 use Rattle.lists.specs.Choice.{and-yes}
 use Rattle.lists.specs.Ranges.{allTo, all-at}
 use Rattle.image.specs.Layout.{nodeCount, sizeAt, parentAt, rootAt, levelAt, badContents}
-use Rattle.index_check.specs.IndexCheck.{lastRank, contains, zerosRight, checkRight, sizeRight, endRight, parentRight, levelRight, rankRight, accepts}
-use Rattle.index_check.specs.RankLaws.{Contents, contents, Right, right, contains-yes, contains-out, parent-below, parent-largest, parent-contains}
+use Rattle.image.specs.ImageLaws.{Contents, contents}
+use Rattle.navigate.specs.Navigate.{endOf}
+use Rattle.index_check.specs.IndexCheck.{contains, zerosRight, checkRight, sizeRight, endRight, parentRight, levelRight, rankRight, accepts}
+use Rattle.index_check.specs.RankLaws.{Right, right, contains-yes, contains-out, parent-below, parent-largest, parent-contains}
 
 module _ (s : List ℕ) where
   -- ---- the words of a right rank, as numbers
@@ -21,25 +23,25 @@ module _ (s : List ℕ) where
   unfolding sizeRight
   size-some k e = leb-true 1 (sizeAt s k) e
 
-  end-in-parent : (k : ℕ) → endRight s k ≡ true → 0 < parentAt s k → lastRank s k ≤ lastRank s (parentAt s k)
+  end-in-parent : (k : ℕ) → endRight s k ≡ true → 0 < parentAt s k → endOf s k ≤ endOf s (parentAt s k)
   unfolding endRight
   end-in-parent k e h =
       let q : eqb (parentAt s k) 0 ≡ false = ne-eqb (parentAt s k) 0 (λ z. omega arith) in
-      leb-true (lastRank s k) (lastRank s (parentAt s k)) (sym (ap (λ (t : Bool). leb (lastRank s k) (cond t (nodeCount s) (lastRank s (parentAt s k)))) q) ∙ e)
+      leb-true (endOf s k) (endOf s (parentAt s k)) (sym (ap (λ (t : Bool). leb (endOf s k) (cond t (nodeCount s) (endOf s (parentAt s k)))) q) ∙ e)
 
-  end-in-count : (k : ℕ) → endRight s k ≡ true → parentAt s k ≡ 0 → lastRank s k ≤ nodeCount s
+  end-in-count : (k : ℕ) → endRight s k ≡ true → parentAt s k ≡ 0 → endOf s k ≤ nodeCount s
   unfolding endRight
   end-in-count k e z =
       let q : eqb (parentAt s k) 0 ≡ true = eq-eqb (parentAt s k) 0 z in
-      leb-true (lastRank s k) (nodeCount s) (sym (ap (λ (t : Bool). leb (lastRank s k) (cond t (nodeCount s) (lastRank s (parentAt s k)))) q) ∙ e)
+      leb-true (endOf s k) (nodeCount s) (sym (ap (λ (t : Bool). leb (endOf s k) (cond t (nodeCount s) (endOf s (parentAt s k)))) q) ∙ e)
 
-  level-of-root : (k : ℕ) → levelRight s k ≡ true → parentAt s k ≡ 0 → levelAt s k ≡ 1
+  pub level-of-root : (k : ℕ) → levelRight s k ≡ true → parentAt s k ≡ 0 → levelAt s k ≡ 1
   unfolding levelRight
   level-of-root k e z =
       let q : eqb (parentAt s k) 0 ≡ true = eq-eqb (parentAt s k) 0 z in
       eqb-true (levelAt s k) 1 (sym (ap (λ (t : Bool). eqb (levelAt s k) (cond t 1 (levelAt s (parentAt s k) + 1))) q) ∙ e)
 
-  level-of-child : (k : ℕ) → levelRight s k ≡ true → 0 < parentAt s k → levelAt s k ≡ levelAt s (parentAt s k) + 1
+  pub level-of-child : (k : ℕ) → levelRight s k ≡ true → 0 < parentAt s k → levelAt s k ≡ levelAt s (parentAt s k) + 1
   unfolding levelRight
   level-of-child k e h =
       let q : eqb (parentAt s k) 0 ≡ false = ne-eqb (parentAt s k) 0 (λ z. omega arith) in
@@ -61,6 +63,9 @@ module _ (s : List ℕ) (accepted : accepts s ≡ true) where
       let b = and-yes (zerosRight s) _ (a .1) in
       let d = and-yes (checkRight s) _ (b .1) in
       (not-true (badContents s) (a .0), d .1)
+
+  pub accepted-good : badContents s ≡ false
+  accepted-good = accepted-parts .0
 
   pub accepted-contents : Contents s
   accepted-contents = contents s (accepted-parts .0)
@@ -84,18 +89,18 @@ module _ (s : List ℕ) (accepted : accepts s ≡ true) where
       let q = contains-out s k i e in
       contains-yes s (parentAt s k) i (omega (arith, accepted-parent k h b, q .0)) (omega (arith, ends-in-parent k h b p, q .1))
 
-  ends-by-count : (f k : ℕ) → k ≤ f → 1 ≤ k → k ≤ nodeCount s → lastRank s k ≤ nodeCount s
+  ends-by-count : (f k : ℕ) → k ≤ f → 1 ≤ k → k ≤ nodeCount s → endOf s k ≤ nodeCount s
   ends-by-count zero k g h b = absurd (omega arith)
   ends-by-count (suc f) k g h b =
       here (ℕ-discrete (parentAt s k) 0) (ends-by-count f (parentAt s k) (omega (arith, accepted-parent k h b)))
     where
-      here : Dec (parentAt s k ≡ 0) → (1 ≤ parentAt s k → parentAt s k ≤ nodeCount s → lastRank s (parentAt s k) ≤ nodeCount s) → lastRank s k ≤ nodeCount s
+      here : Dec (parentAt s k ≡ 0) → (1 ≤ parentAt s k → parentAt s k ≤ nodeCount s → endOf s (parentAt s k) ≤ nodeCount s) → endOf s k ≤ nodeCount s
       here (yes z) above = end-in-count s k (accepted-rank k h b .end) z
       here (no z) above =
           omega (arith, end-in-parent s k (accepted-rank k h b .end) (omega arith), above (omega arith) (omega (arith, accepted-parent k h b)))
 
   -- every subtree interval ends at n or before
-  pub accepted-end : (k : ℕ) → 1 ≤ k → k ≤ nodeCount s → lastRank s k ≤ nodeCount s
+  pub accepted-end : (k : ℕ) → 1 ≤ k → k ≤ nodeCount s → endOf s k ≤ nodeCount s
   accepted-end k h b = ends-by-count k k (omega arith) h b
 
   -- an interval that begins in another's ends in it

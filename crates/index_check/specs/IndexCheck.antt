@@ -6,12 +6,9 @@ use lib.ListN.{getD, take, drop}
 use lib.Dec.{ltb, leb, eqb}
 use Rattle.lists.specs.Ranges.{allTo, largestTo}
 use Rattle.image.specs.Layout.{nodeCount, sizeAt, parentAt, rootAt, wordAt, levelAt, checked, badContents}
+use Rattle.navigate.specs.Navigate.{endOf}
 
--- the last rank of a rank's interval, which is the ranks r to r + size − 1
-abbrev pub lastRank : List ℕ → ℕ → ℕ
-lastRank s r = r + sizeAt s r - 1
-
--- the interval of rank r contains rank k
+-- the interval of rank r, which is the ranks r to r + size − 1, contains rank k
 abbrev pub contains : List ℕ → ℕ → ℕ → Bool
 contains s r k = leb r k && ltb k (r + sizeAt s r)
 
@@ -33,7 +30,7 @@ sizeRight s k = leb 1 (sizeAt s k)
 
 -- "its interval ends inside its parent's (or at n or before)"
 unfoldable pub endRight : List ℕ → ℕ → Bool
-endRight s k = leb (lastRank s k) (cond (eqb (parentAt s k) 0) (nodeCount s) (lastRank s (parentAt s k)))
+endRight s k = leb (endOf s k) (cond (eqb (parentAt s k) 0) (nodeCount s) (endOf s (parentAt s k)))
 
 -- "the parent rank is the largest lower rank whose interval contains it, else 0"
 unfoldable pub parentRight : List ℕ → ℕ → Bool

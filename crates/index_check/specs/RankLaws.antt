@@ -1,39 +1,17 @@
 -- What the conditions on a rank say of its words, and that a climb through parent ranks finds the parent. Assumes nothing.
 use mathlib.Core.Path.{_≡_, refl, sym, ap, _∙_}
-use mathlib.Core.Bool.{Bool, true, false, cond, _&&_, not}
+use mathlib.Core.Bool.{Bool, true, false, cond, _&&_}
 use mathlib.Core.List.{List}
-use Prim.Native.Nat.{ℕ, zero, suc, _+_, _*_, _-_, _≤_, _<_}
+use Prim.Native.Nat.{ℕ, _+_, _*_, _-_, _≤_, _<_}
 use native.Mathlib.Decide.{ℕ-discrete}
 use native.Mathlib.Omega.{arith}
-use lib.ListN.{length, getD}
-use lib.Dec.{ltb, leb, eqb}
-use borrow.Author.Tests.{ltb-true, ltb-false, lt-ltb, le-ltb, leb-true, le-leb, eqb-true, not-false}
-use Rattle.lists.specs.Choice.{and-yes, or-no, cond-none}
-use Rattle.lists.specs.Ranges.{allTo, largestTo, and-no, true-false, all-at, largest-here, largest-le, largest-holds, largest-above, largest-below}
-use Rattle.image.specs.Layout.{nodeCount, sizeAt, parentAt, badContents, contentsRefusal}
-use Rattle.index_check.specs.IndexCheck.{contains, parentOf, sizeRight, endRight, parentRight, levelRight, rootRight, bitsRight, rankRight, accepts}
-
--- an index that fits its slice
-pub record Contents (s : List ℕ) : Type 0 where
-  pub long : 8 ≤ length s
-  pub few : nodeCount s ≤ 65535
-  pub room : 8 + 6 * nodeCount s ≤ length s
-
-pub contents : (s : List ℕ) → badContents s ≡ false → Contents s
-unfolding badContents
-contents s e =
-    let a = or-no (ltb (length s) 8) _ e in
-    let b = or-no (not (eqb (getD s 1 0) 8)) _ (a .1) in
-    let d = or-no (not (eqb (getD s 2 0) 6)) _ (b .1) in
-    let f = or-no (ltb 65535 (nodeCount s)) _ (d .1) in
-    record {
-      long = ltb-false (length s) 8 (a .0);
-      few = ltb-false 65535 (nodeCount s) (f .0);
-      room = ltb-false (length s) (8 + 6 * nodeCount s) (f .1);
-    }
-
-pub contents-none : (s : List ℕ) → contentsRefusal s ≡ 0 → badContents s ≡ false
-contents-none s e = cond-none (badContents s) 13 0 (omega arith) e .0
+use lib.ListN.{length}
+use lib.Dec.{ltb, leb}
+use borrow.Author.Tests.{ltb-true, lt-ltb, leb-true, le-leb, eqb-true}
+use Rattle.lists.specs.Choice.{and-yes}
+use Rattle.lists.specs.Ranges.{allTo, largestTo, largest-here, largest-le, largest-holds, largest-above, largest-below}
+use Rattle.image.specs.Layout.{sizeAt, parentAt, badContents, contentsRefusal}
+use Rattle.index_check.specs.IndexCheck.{contains, parentOf, sizeRight, endRight, parentRight, levelRight, rootRight, bitsRight, rankRight}
 
 pub contents-some : (s : List ℕ) → (contentsRefusal s ≡ 0 → ⊥) → badContents s ≡ true
 contents-some s h = here (badContents s) refl

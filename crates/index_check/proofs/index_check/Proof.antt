@@ -1,19 +1,19 @@
 -- `index_check::index_check` meets its contract. Assumes nothing.
 use mathlib.Core.Path.{_≡_, refl, sym, _∙_}
-use mathlib.Core.Bool.{true, false}
+use mathlib.Core.Bool.{true, false, and-false}
 use native.Mathlib.Omega.{arith}
 use denote.Ref.{now}
 use borrow.Author.Tests.{not-true, not-false}
 use borrow.Author.Needs.{needs}
-use Rattle.lists.specs.Ranges.{and-no}
 use Rattle.image.specs.Layout.{badContents}
+use Rattle.image.specs.ImageLaws.{Contents, contents, contents-of}
 use Rattle.index_check.specs.IndexCheck.{zerosRight, checkRight, accepts}
-use Rattle.index_check.specs.RankLaws.{Contents, contents, contents-none, contents-some}
+use Rattle.index_check.specs.RankLaws.{contents-some}
 use Rattle.index_check.proofs.index_check.Statement.{statement}
 use Rattle.index_check.proofs.index_check.Tie as tie
 
 good : (c : tie.Else1) → badContents (now (c .before .before .before .args .index)) ≡ false
-good c = contents-none _ (sym (c .before .contents-refusal .ensures) ∙ c .if1 .left)
+good c = contents-of _ (sym (c .before .contents-refusal .ensures) ∙ c .if1 .left)
 
 ok : (c : tie.Else1) → Contents (now (c .before .before .before .args .index))
 ok c = contents _ (good c)
@@ -42,14 +42,14 @@ zeros-right-requires c κs = ok (c .before) .long
 
 returns-2 : tie.Need-returns-2
 unfolding accepts
-returns-2 c = simp (sym (c .before .zeros-right .ensures) ∙ not-true _ (c .if2 .taken), and-no)
+returns-2 c = simp (sym (c .before .zeros-right .ensures) ∙ not-true _ (c .if2 .taken), and-false)
 
 check-right-requires : tie.Need-check-right-requires
 check-right-requires c κs = let h = ok (c .before .before .before) in (refl, h .few, h .room)
 
 returns-3 : tie.Need-returns-3
 unfolding accepts
-returns-3 c = simp (sym (c .before .check-right .ensures) ∙ not-true _ (c .if3 .taken), and-no)
+returns-3 c = simp (sym (c .before .check-right .ensures) ∙ not-true _ (c .if3 .taken), and-false)
 
 ranks-right-requires : tie.Need-ranks-right-requires
 ranks-right-requires c κs = let h = ok (c .before .before .before .before .before) in (h .few, h .room)

@@ -1,10 +1,9 @@
 -- `index_check::rank_right` meets its contract. Once the parent rank is found right it lies below the rank, so that its words may be read. Assumes nothing.
 use mathlib.Core.Path.{_≡_, sym, _∙_}
-use mathlib.Core.Bool.{true}
+use mathlib.Core.Bool.{true, and-false}
 use denote.Ref.{now}
 use borrow.Author.Tests.{not-true, not-false}
 use borrow.Author.Needs.{needs}
-use Rattle.lists.specs.Ranges.{and-no}
 use Rattle.index_check.specs.IndexCheck.{sizeRight, endRight, parentRight, levelRight, rootRight, rankRight}
 use Rattle.index_check.specs.RankLaws.{Linked, parent-below}
 use Rattle.index_check.proofs.rank_right.Statement.{statement}
@@ -36,35 +35,35 @@ size-right-requires c κs = search needs
 
 returns : tie.Need-returns
 unfolding rankRight
-returns c = simp (sym (c .before .size-right .ensures) ∙ not-true _ (c .if1 .taken), and-no)
+returns c = simp (sym (c .before .size-right .ensures) ∙ not-true _ (c .if1 .taken), and-false)
 
 parent-right-requires : tie.Need-parent-right-requires
 parent-right-requires c κs = search needs
 
 returns-2 : tie.Need-returns-2
 unfolding rankRight
-returns-2 c = simp (sym (c .before .parent-right .ensures) ∙ not-true _ (c .if2 .taken), and-no)
+returns-2 c = simp (sym (c .before .parent-right .ensures) ∙ not-true _ (c .if2 .taken), and-false)
 
 end-right-requires : tie.Need-end-right-requires
 end-right-requires c κs = linked c
 
 returns-3 : tie.Need-returns-3
 unfolding rankRight
-returns-3 c = simp (sym (c .before .end-right .ensures) ∙ not-true _ (c .if3 .taken), and-no)
+returns-3 c = simp (sym (c .before .end-right .ensures) ∙ not-true _ (c .if3 .taken), and-false)
 
 level-right-requires : tie.Need-level-right-requires
 level-right-requires c κs = linked (c .before .before)
 
 returns-4 : tie.Need-returns-4
 unfolding rankRight
-returns-4 c = simp (sym (c .before .level-right .ensures) ∙ not-true _ (c .if4 .taken), and-no)
+returns-4 c = simp (sym (c .before .level-right .ensures) ∙ not-true _ (c .if4 .taken), and-false)
 
 root-right-requires : tie.Need-root-right-requires
 root-right-requires c κs = linked (c .before .before .before .before)
 
 returns-5 : tie.Need-returns-5
 unfolding rankRight
-returns-5 c = simp (sym (c .before .root-right .ensures) ∙ not-true _ (c .if5 .taken), and-no)
+returns-5 c = simp (sym (c .before .root-right .ensures) ∙ not-true _ (c .if5 .taken), and-false)
 
 bits-right-requires : tie.Need-bits-right-requires
 bits-right-requires c κs = search needs
