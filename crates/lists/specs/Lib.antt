@@ -4,3 +4,5 @@ pub mod Moves
 pub mod Choice
 pub mod Signed
 pub mod Sorting
+pub mod Tables
+pub mod Ranges
