@@ -5,7 +5,8 @@ use mathlib.Core.Path.{_≡_}
 use Prim.Native.Nat.{ℕ, zero, suc, _+_, _-_, _*_, _%_, _<_, _≤_}
 use lib.Dec.{eqb, ltb}
 use lib.ListN.{length, getD, drop}
-use Rattle.lists.specs.Members.{sort, numbers}
+use Rattle.lists.specs.Members.{filter, sort, numbers}
+use Rattle.paths.specs.Siblings.{keyBefore}
 
 -- ---- the sort
 
@@ -17,3 +18,83 @@ leftFirst a h i j = cond (ltb i h) (cond (ltb j (length a)) (cond (ltb (getD a i
 pub record NotAbove (a : List ℕ) (j x : ℕ) (b : Bool) : Type 0 where
   pub yes-is : b ≡ true → (j < length a) × (getD a j 0 ≤ x)
   pub no-is : b ≡ false → j < length a → x < getD a j 0
+
+-- ---- keys: a number and its place in one number
+
+-- each number x at its place i, as x * 1024 + i
+unfoldable pub packed : ℕ → List ℕ → List ℕ
+packed i [] = []
+packed i (x ∷ l) = (x * 1024 + i) ∷ packed (suc i) l
+
+-- the keys of the numbers F, sorted
+unfoldable pub keysOf : List ℕ → List ℕ
+keysOf F = sort ltb (packed 0 F)
+
+-- a key without its place
+unfoldable pub baseOf : ℕ → ℕ
+baseOf k = k - k % 1024
+
+-- K's numbers rise
+abbrev pub Rising : List ℕ → Type 0
+Rising K = (i j : ℕ) → i < j → j < length K → getD K i 0 < getD K j 0
+
+-- r numbers of K are below v
+pub record Lower (K : List ℕ) (v r : ℕ) : Type 0 where
+  pub within : r ≤ length K
+  pub less : (k : ℕ) → k < r → getD K k 0 < v
+  pub rest : r < length K → v ≤ getD K r 0
+
+-- b tells whether there is a key at r that is below base
+pub record Below (K : List ℕ) (r base : ℕ) (b : Bool) : Type 0 where
+  pub yes-is : b ≡ true → (r < length K) × (getD K r 0 < base)
+  pub no-is : b ≡ false → r < length K → base ≤ getD K r 0
+
+-- the place of the key at r, where its number is that of base; else n
+unfoldable pub foundAt : List ℕ → ℕ → ℕ → ℕ → ℕ
+foundAt K r base n = cond (ltb r (length K)) (cond (ltb (getD K r 0) (base + 1024)) (getD K r 0 - base) n) n
+
+-- ---- rows in sibling order
+
+-- the field O of row number x
+abbrev pub of : List ℕ → ℕ → ℕ
+of O x = getD O (x - 1) 0
+
+-- the numbers of rows whose orders are O, in sibling order
+unfoldable pub rowsBy : List ℕ → List ℕ
+rowsBy O = sort (λ x y. keyBefore (of O x) x (of O y) y) (numbers 1 (length O))
+
+-- each is the number of one of n rows
+abbrev pub Numbered : List ℕ → ℕ → Type 0
+Numbered rows n = (k : ℕ) → k < length rows → (1 ≤ getD rows k 0) × (getD rows k 0 ≤ n)
+
+-- ---- links between places, counted from 0 in sibling order
+
+-- the first place of x in a list whose places are counted from i, or the end
+unfoldable pub place : ℕ → List ℕ → ℕ → ℕ
+place x [] i = i
+place x (y ∷ l) i = cond (eqb y x) i (place x l (suc i))
+
+-- the first place of x in F, at `from` or later, or F's length
+unfoldable pub firstFrom : List ℕ → ℕ → ℕ → ℕ
+firstFrom F x from = place x (drop from F) from
+
+-- for each place of F the next one with the same number, or F's length
+unfoldable pub nexts : List ℕ → List ℕ
+nexts F = map (λ p. firstFrom F (getD F p 0) (p + 1)) (numbers 0 (length F))
+
+-- for each number of Q its first place in F, or F's length
+unfoldable pub firsts : List ℕ → List ℕ → List ℕ
+firsts F Q = map (λ x. firstFrom F x 0) Q
+
+-- all places of x in F
+unfoldable pub places : List ℕ → ℕ → List ℕ
+places F x = filter (λ q. eqb (getD F q 0) x) (numbers 0 (length F))
+
+-- 1 for true, 0 for false
+abbrev pub bit : Bool → ℕ
+bit b = cond b 1 0
+
+-- the places from p on, by the links of `next`, where m is the number of places
+pub data Linked (next : List ℕ) (m : ℕ) : ℕ → List ℕ → Type 0 where
+  end : {p : ℕ} → m ≤ p → Linked next m p []
+  more : {p : ℕ} {ps : List ℕ} → p < m → Linked next m (getD next p 0) ps → Linked next m p (p ∷ ps)
