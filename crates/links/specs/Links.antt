@@ -6,7 +6,10 @@ use Prim.Native.Nat.{ℕ, zero, suc, _+_, _-_, _*_, _%_, _<_, _≤_}
 use lib.Dec.{eqb, ltb}
 use lib.ListN.{length, getD, drop}
 use Rattle.lists.specs.Members.{filter, sort, numbers}
+use Rattle.board.specs.declared.Row.{Row}
 use Rattle.paths.specs.Siblings.{keyBefore}
+use Rattle.paths.specs.Rows.{num, par}
+use Rattle.paths.specs.Nodes.{sorted}
 
 -- ---- the sort
 
@@ -98,3 +101,16 @@ bit b = cond b 1 0
 pub data Linked (next : List ℕ) (m : ℕ) : ℕ → List ℕ → Type 0 where
   end : {p : ℕ} → m ≤ p → Linked next m p []
   more : {p : ℕ} {ps : List ℕ} → p < m → Linked next m (getD next p 0) ps → Linked next m p (p ∷ ps)
+
+-- ---- what the preparation of a board's rows R leaves
+
+-- the rows in sibling order, with the parent and the numeral at each place
+pub record Ordered (R : List Row) (rows parent numeral : List ℕ) : Type 0 where
+  pub few : length R ≤ 1024
+  pub rows-are : rows ≡ sorted R
+  pub parents-are : parent ≡ map (par R) (sorted R)
+  pub numerals-are : numeral ≡ map (num R) (sorted R)
+
+-- the parents of the rows for which `inside` holds, 0 for the others
+abbrev pub Masked : (R : List Row) (inside : ℕ → Bool) (rows masked : List ℕ) → Type 0
+Masked R inside rows masked = (length masked ≡ length rows) × ((q : ℕ) → q < length rows → getD masked q 0 ≡ cond (inside (getD rows q 0)) (par R (getD rows q 0)) 0)
