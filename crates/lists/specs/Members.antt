@@ -420,6 +420,10 @@ pub numbers-distinct : (k n : ℕ) → Increasing (λ x y. x ≢ y) (numbers k n
 numbers-distinct k zero = tt
 numbers-distinct k (suc n) = ((λ y m e. absurd (omega (arith, numbers-out (suc k) n y m))), numbers-distinct (suc k) n)
 
+pub numbers-rising : (k n : ℕ) → Increasing _<_ (numbers k n)
+numbers-rising k zero = tt
+numbers-rising k (suc n) = ((λ y m. omega (arith, numbers-out (suc k) n y m)), numbers-rising (suc k) n)
+
 pub getD-numbers : (i n k : ℕ) → k < n → getD (numbers i n) k 0 ≡ i + k
 getD-numbers i zero k h = absurd (omega arith)
 getD-numbers i (suc n) zero h = omega arith

@@ -1,13 +1,13 @@
 -- Paper 01, "Paths", "Index image" and "What demand 3 compares": what the index says of each node, running totals, extensions. Assumes nothing: these are definitions.
 use mathlib.Core.Bool.{Bool, true, false, cond, not, _&&_}
 use mathlib.Core.List.{List, [], _∷_, _++_, map}
-use mathlib.Core.Option.{Option}
 use Prim.Native.Nat.{ℕ, zero, suc, _-_, _<_}
 use lib.Dec.{T, eqb}
 use lib.IntN.{ℤ, pos}
 use lib.ListN.{length, getD, drop}
 use lib.Signed.{leZ}
 use Rattle.board.specs.declared.Row.{Row}
+use Rattle.options.specs.declared.Depth.{Depth}
 use Rattle.image.specs.declared.Body.{Body}
 use Rattle.lists.specs.Members.{filter, numbers, sum, totalsFrom}
 use Rattle.paths.specs.Forest.{memb}
@@ -93,17 +93,17 @@ module _ (R : List Row) where
   orphanCloses root p = closes R p
 
   -- "the body of rank k is that of the k-th node"
-  unfoldable pub bodies : (Row → Bool) → Option ℤ → Orphan → List Body
+  unfoldable pub bodies : (Row → Bool) → Depth → Orphan → List Body
   bodies start depth o =
       let whole : List (List ℕ) = nodes R start depth o in
       map (λ p. body whole false (closes R p) p) (regular R start depth) ++ map (λ p. body whole true (orphanCloses o p) p) (orphanNodes R start depth o)
 
   -- the rows that end no node
-  unfoldable pub leftRows : (Row → Bool) → Option ℤ → Orphan → List ℕ
+  unfoldable pub leftRows : (Row → Bool) → Depth → Orphan → List ℕ
   leftRows start depth o =
       let ends : List ℕ = map last (nodes R start depth o) in
       filter (λ x. not (memb x ends)) (numbers 1 (length R))
 
   -- "the number of rows that end no node"
-  unfoldable pub leftOf : (Row → Bool) → Option ℤ → Orphan → ℕ
+  unfoldable pub leftOf : (Row → Bool) → Depth → Orphan → ℕ
   leftOf start depth o = length (leftRows start depth o)

@@ -1,22 +1,16 @@
 -- The nodes of a build as executable lists, in the paper's order; that they are the nodes of Paths is proved in NodeLaws. Assumes nothing: these are definitions.
 use mathlib.Core.Bool.{Bool, not, _||_}
 use mathlib.Core.List.{List, [], _∷_, _++_, map}
-use mathlib.Core.Option.{Option, none, some}
 use Prim.Native.Nat.{ℕ, zero, suc}
 use lib.Dec.{eqb}
-use lib.IntN.{ℤ, pos, negsuc}
 use lib.ListN.{length}
 use Rattle.board.specs.declared.Row.{Row}
+use Rattle.options.specs.declared.Depth.{Depth}
+use Rattle.options.specs.Options.{levelLimit}
 use Rattle.lists.specs.Members.{filter, sort, numbers}
 use Rattle.paths.specs.Forest.{memb, forest}
 use Rattle.paths.specs.Rows.{row, num, par, siblings}
 use Rattle.paths.specs.Paths.{last, Orphan, ignore, error, adopt, root}
-
--- how many rows a path may have; with no depth, one more than there are rows is never short
-abbrev pub limit : List Row → Option ℤ → ℕ
-limit R none = suc (length R)
-limit R (some (pos d)) = suc d
-limit R (some (negsuc d)) = 0
 
 -- the last start row in front of each path; none without a start row
 abbrev pub adopted : List ℕ → List (List ℕ) → List (List ℕ)
@@ -36,9 +30,9 @@ module _ (R : List Row) where
     unfoldable pub starts : List ℕ
     starts = filter (λ x. start (row R x)) sorted
 
-    module _ (depth : Option ℤ) where
+    module _ (depth : Depth) where
       unfoldable pub regular : List (List ℕ)
-      regular = forest (num R) (par R) sorted (limit R depth) [] starts
+      regular = forest (num R) (par R) sorted (levelLimit depth (length R)) [] starts
 
       -- the rows of U
       unfoldable pub orphanRows : List ℕ

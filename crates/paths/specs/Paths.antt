@@ -4,12 +4,13 @@ use mathlib.Core.Path.{_≡_}
 use mathlib.Core.Logic.{_⊎_, _≢_}
 use mathlib.Core.Bool.{Bool}
 use mathlib.Core.List.{List, [], _∷_, map}
-use mathlib.Core.Option.{Option, none, some}
 use Prim.Native.Nat.{ℕ, zero, suc, _≤_, _<_}
 use lib.Dec.{T}
 use lib.IntN.{ℤ, pos, negsuc}
 use lib.ListN.{length, getD}
 use Rattle.board.specs.declared.Row.{Row}
+use Rattle.options.specs.declared.Depth.{Depth}
+use Rattle.options.specs.declared.Depth.the-variants.{None, Limit}
 use Rattle.lists.specs.Members.{_∈_}
 use Rattle.paths.specs.Forest.{memb}
 use Rattle.paths.specs.Rows.{row, num, par, RowOf, Sibling}
@@ -38,10 +39,10 @@ pub record Chain (num par : ℕ → ℕ) (In First : ℕ → Type 0) (p : List �
   pub differ : (i j : ℕ) → i < j → suc j < length p → num (getD p i 0) ≢ num (getD p j 0)
 
 -- "With depth d it has at most d + 1 rows; a negative d gives no path."
-abbrev pub Within : Option ℤ → List ℕ → Type 0
-Within none p = Unit {0}
-Within (some (pos d)) p = length p ≤ suc d
-Within (some (negsuc d)) p = ⊥
+abbrev pub Within : Depth → List ℕ → Type 0
+Within None p = Unit {0}
+Within (Limit (pos d)) p = length p ≤ suc d
+Within (Limit (negsuc d)) p = ⊥
 
 -- "Orphan: 0 ignore, 1 error, 2 adopt, 3 root."
 pub data Orphan : Type 0 where
@@ -67,7 +68,7 @@ module _ (R : List Row) where
     abbrev pub LastStart : ℕ → Type 0
     LastStart a = RowOf R a × Start a × ((x : ℕ) → RowOf R x → Start x → (x ≡ a) ⊎ Sibling R x a)
 
-    module _ (depth : Option ℤ) where
+    module _ (depth : Depth) where
       -- "Regular path"
       abbrev pub Regular : List ℕ → Type 0
       Regular p = Chain (num R) (par R) (RowOf R) Start p × Within depth p
