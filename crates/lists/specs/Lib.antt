@@ -3,6 +3,7 @@ pub mod Stores
 pub mod Moves
 pub mod Choice
 pub mod Signed
+pub mod Sorting
 pub mod Tables
 pub mod Ranges
 pub mod Counting
