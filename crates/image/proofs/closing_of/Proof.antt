@@ -1,0 +1,16 @@
+use lib.Dec.{eqb}
+use lib.Bits.{and-mask}
+use Prim.Native.Nat.{ℕ, _/_, _^_}
+use mathlib.Core.Path.{_≡_, refl, sym, ap, _∙_}
+use borrow.Author.Needs.{needs}
+use Rattle.image.proofs.closing_of.Statement.{statement}
+use Rattle.image.proofs.closing_of.Tie as tie
+use Rattle.image.proofs.closing_of.Reads as reads
+use Rattle.image.proofs.closing_of.Lts as lts
+
+-- src/lib.rt:359:1
+returns : tie.Need-returns
+returns c = ap (λ (n : ℕ). eqb n 1) (and-mask (c .args .word / 2 ^ 30) 1)
+
+pub closing-of-spec : {M : Type 1} → statement M
+closing-of-spec = tie.close (tie.spec returns)
