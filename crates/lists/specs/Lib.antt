@@ -3,3 +3,5 @@ pub mod Stores
 pub mod Moves
 pub mod Choice
 pub mod Signed
+pub mod Tables
+pub mod Ranges

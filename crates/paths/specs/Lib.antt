@@ -1,3 +1,9 @@
 pub mod Siblings
+pub mod Rows
+pub mod Paths
 pub mod Forest
+pub mod Nodes
+pub mod Bodies
+pub mod Refusals
 pub mod Emit
+pub mod Cases
