@@ -7,7 +7,7 @@ use native.Mathlib.Nat.{add-zero}
 use native.Mathlib.Omega.{arith}
 use native.Mathlib.Numerals.{add-one}
 use native.Mathlib.Decide.{ℕ-discrete, decLt}
-use mathlib.Core.List.{List, [], _∷_, _++_, map, append-assoc}
+use mathlib.Core.List.{List, [], _∷_, _++_, map, append-assoc, append-nil}
 use lib.ListN.{length, getD, set, drop, length-append, length-drop}
 use lib.Seq.{sets, length-take-le, set-set, set-getD, getD-set-same, getD-set-other}
 use lib.Dec.{ltb, eqb}
@@ -88,6 +88,36 @@ walked-all b K S n cap check sum after r on on₁ on₂ ix ix₁ ix₂ ix₃ k f
           ∙ checked-all check b K S;
     }
 
+-- one walk after another
+pub walked-join : (L M : List Body) (n cap check : ℕ) (on on₁ on₂ ix ix₁ ix₂ : List ℕ) (r₁ r₂ : Met)
+    → Walked L n cap check on on₁ ix ix₁ r₁ → r₁ .count ≤ cap → Walked M (r₁ .count) cap (r₁ .check) on₁ on₂ ix₁ ix₂ r₂ → Walked (L ++ M) n cap check on on₂ ix ix₂ r₂
+walked-join L M n cap check on on₁ on₂ ix ix₁ ix₂ r₁ r₂ l fit m =
+    let e : 8 + 6 * r₁ .count ≡ 8 + 6 * n + length (flat L) = omega (arith, l .count, length-flat L) in
+    record {
+      count = simp length-append (omega (arith, l .count, m .count));
+      marks = m .marks ∙ l .marks;
+      written = λ h. m .written h
+          ∙ ap (λ (s : List ℕ). sets s (8 + 6 * r₁ .count) (flat M)) (l .written fit)
+          ∙ ap (λ (k : ℕ). sets (sets ix (8 + 6 * n) (flat L)) k (flat M)) e
+          ∙ sym (ap (λ (w : List ℕ). sets ix (8 + 6 * n) w) (flat-append L M) ∙ sets-append ix (8 + 6 * n) (flat L) (flat M));
+      check = λ h. m .check h ∙ ap (λ (c : ℕ). checked c (flat M)) (l .check fit) ∙ sym (ap (checked check) (flat-append L M) ∙ checked-append check (flat L) (flat M));
+    }
+
+-- a walk that passed the capacity has passed it for more nodes too
+pub walked-stop : (L M : List Body) (n cap check : ℕ) (on on₁ ix ix₁ : List ℕ) (r : Met) → Walked L n cap check on on₁ ix ix₁ r → cap < r .count → Walked (L ++ M) n cap check on on₁ ix ix₁ r
+walked-stop L M n cap check on on₁ ix ix₁ r l over =
+    record { count = simp length-append (omega (arith, l .count)); marks = l .marks; written = λ h. absurd (no h over); check = λ h. absurd (no h over) }
+  where
+    no : {a b : ℕ} → a ≤ b → b < a → ⊥
+    no p q = omega arith
+
+-- a node whose body is written after all that is below it
+pub walked-own : (b : Body) (K : List Body) (n cap check sum : ℕ) (on on₁ ix ix₁ ix₂ : List ℕ) (r : Met)
+    → Walked K (n + 1) cap check on on₁ ix ix₁ r → r .count ≤ cap → Put b n (r .check) ix₁ ix₂ sum → Walked (b ∷ K) n cap check on on₁ ix ix₂ (record { count = r .count; check = sum })
+walked-own b K n cap check sum on on₁ ix ix₁ ix₂ r k fit put =
+    subst (λ (L : List Body). Walked (b ∷ L) n cap check on on₁ ix ix₂ (record { count = r .count; check = sum })) (append-nil K)
+    (walked-all b K [] n cap check sum r (record { count = r .count; check = sum }) on on₁ on₁ ix ix₁ ix₂ ix₂ k fit put (walked-none (r .count) cap sum on₁ ix₂ fit))
+
 -- ---- the list of nodes, case by case
 
 or-else-some : (root k : ℕ) → root ≢ 0 → orElse root k ≡ root
@@ -117,6 +147,26 @@ module _ (num par : ℕ → ℕ) (pool : List ℕ) (orphan : Bool) where
       ∷ (underNode f seen root level x k ++ emit (nodeBody num orphan) num par pool (suc f) seen xs parent root level (k + suc (length (underNode f seen root level x k))))
   unfolding emit underNode
   emit-cons f seen x xs parent root level k = refl
+
+  -- siblings in two parts
+  pub emit-append : (f : ℕ) (seen xs ys : List ℕ) (parent root level k : ℕ)
+      → emit (nodeBody num orphan) num par pool f seen (xs ++ ys) parent root level k
+      ≡ emit (nodeBody num orphan) num par pool f seen xs parent root level k
+      ++ emit (nodeBody num orphan) num par pool f seen ys parent root level (k + length (emit (nodeBody num orphan) num par pool f seen xs parent root level k))
+  emit-append zero seen xs ys parent root level k =
+      rw (emit-none seen (xs ++ ys) parent root level k, emit-none seen xs parent root level k) (sym (emit-none seen ys parent root level (k + 0)))
+  emit-append (suc f) seen [] ys parent root level k =
+      rw (emit-nil (suc f) seen parent root level k) (ap (emit (nodeBody num orphan) num par pool (suc f) seen ys parent root level) (sym (add-zero k)))
+  emit-append (suc f) seen (x ∷ xs) ys parent root level k =
+      let K : List Body = underNode f seen root level x k in
+      let b : Body = nodeBody num orphan x (suc (length K)) parent (orElse root k) level (memb (num x) seen) in
+      let X : List Body = emit (nodeBody num orphan) num par pool (suc f) seen xs parent root level (k + suc (length K)) in
+      let e : k + suc (length K) + length X ≡ k + length (b ∷ (K ++ X)) = omega (arith, length-append K X) in
+      emit-cons f seen x (xs ++ ys) parent root level k
+      ∙ ap (λ (t : List Body). b ∷ (K ++ t)) (emit-append (suc f) seen xs ys parent root level (k + suc (length K)))
+      ∙ sym (append-assoc (b ∷ K) X (emit (nodeBody num orphan) num par pool (suc f) seen ys parent root level (k + suc (length K) + length X)))
+      ∙ ap (λ (j : ℕ). (b ∷ (K ++ X)) ++ emit (nodeBody num orphan) num par pool (suc f) seen ys parent root level j) e
+      ∙ ap (λ (t : List Body). t ++ emit (nodeBody num orphan) num par pool (suc f) seen ys parent root level (k + length t)) (sym (emit-cons f seen x xs parent root level k))
 
 -- ---- positions by their links
 

@@ -62,12 +62,14 @@ pub fn put_node(
     requires { ⌜ (n < after) × (after ≤ 65535) × (14 + 6 * n ≤ length (now index)) ⌝ }
     ensures { λ r. ⌜ Put (rowBody (now (cls .entry)) (now (numeral .entry)) (now (row .entry)) orphan p level parent root n (now (marks .entry)) (after - n)) n check (now (index .entry)) (now (index .exit)) r ⌝ }
 {
+    let rank = n + 1;
+    let size = after - n;
     let body = image::Body {
         numeral: lists::get(numeral, p),
         row: lists::get(row, p),
-        size: after - n,
+        size: size,
         parent: parent,
-        root: root_of(root, n + 1),
+        root: root_of(root, rank),
         level: level,
         closing: closing(p, cls, marks),
         orphan: orphan,
@@ -240,14 +242,14 @@ pub fn roots(
         };
     }
     let mut p = first;
-    let mut met = n;
+    let mut count = n;
     let mut sum = check;
     while p < end {
         if lists::get(flags, p) != 1 {
             p += 1;
             continue;
         }
-        if cap <= met {
+        if cap <= count {
             return Met {
                 count: cap + 1,
                 check: sum,
@@ -258,7 +260,7 @@ pub fn roots(
             level,
             limit,
             root,
-            met,
+            count,
             cap,
             sum,
             orphan,
@@ -278,7 +280,7 @@ pub fn roots(
             level,
             parent,
             root,
-            met,
+            count,
             after.count,
             after.check,
             orphan,
@@ -288,11 +290,11 @@ pub fn roots(
             marks,
             index,
         );
-        met = after.count;
+        count = after.count;
         p += 1;
     }
     Met {
-        count: met,
+        count: count,
         check: sum,
     }
 }

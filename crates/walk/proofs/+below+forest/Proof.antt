@@ -41,7 +41,6 @@ forest-at t = and 7 forest-kinds.ps (is 7 forest-kinds.ps μ-forest t) forest.Pr
 abbrev forest-below : ℕ → In 7 forest-kinds.ps
 forest-below t = and 7 forest-kinds.ps (falls 7 forest-kinds.ps _<_ μ-forest t) forest.Pre
 
--- src/lib.rt:71:16
 below-add-rank : (t : ℕ) → below-lts.Need-add-rank (
   opens-reads.Asked,
   opens-reads.Learnt,
@@ -54,7 +53,6 @@ below-add-rank : (t : ℕ) → below-lts.Need-add-rank (
 ) (below-at t) below.Post
 below-add-rank t c = search needs
 
--- src/lib.rt:72:9
 below-opens-requires : (t : ℕ) → below-lts.Need-opens-requires (
   opens-reads.Asked,
   opens-reads.Learnt,
@@ -67,7 +65,6 @@ below-opens-requires : (t : ℕ) → below-lts.Need-opens-requires (
 ) (below-at t) below.Post
 below-opens-requires t c κs = search needs
 
--- src/lib.rt:73:9
 below-same-length : (t : ℕ) → below-lts.Need-same-length (
   opens-reads.Asked,
   opens-reads.Learnt,
@@ -80,7 +77,6 @@ below-same-length : (t : ℕ) → below-lts.Need-same-length (
 ) (below-at t) below.Post
 below-same-length t c = search needs
 
--- src/lib.rt:73:9
 below-returns : (t : ℕ) → below-lts.Need-returns (
   opens-reads.Asked,
   opens-reads.Learnt,
@@ -97,7 +93,6 @@ below-returns t c =
     let lp : s .args .p < length (s .args .child .now) = omega (arith, s .pre .1 .1) in
     (omega arith, below-none _ _ _ _ _ _ _ _ _ _ _ lp (sym (c .before .opens .ensures) ∙ not-true _ (c .if1 .taken)) lt)
 
--- src/lib.rt:75:9
 below-place-requires : (t : ℕ) → below-lts.Need-place-requires (
   opens-reads.Asked,
   opens-reads.Learnt,
@@ -110,7 +105,6 @@ below-place-requires : (t : ℕ) → below-lts.Need-place-requires (
 ) (below-at t) below.Post
 below-place-requires t c κs = search needs
 
--- src/lib.rt:76:9
 below-place-requires-2 : (t : ℕ) → below-lts.Need-place-requires-2 (
   opens-reads.Asked,
   opens-reads.Learnt,
@@ -123,7 +117,6 @@ below-place-requires-2 : (t : ℕ) → below-lts.Need-place-requires-2 (
 ) (below-at t) below.Post
 below-place-requires-2 t c κs = search needs
 
--- src/lib.rt:77:9
 below-root-of-requires : (t : ℕ) → below-lts.Need-root-of-requires (
   opens-reads.Asked,
   opens-reads.Learnt,
@@ -136,7 +129,6 @@ below-root-of-requires : (t : ℕ) → below-lts.Need-root-of-requires (
 ) (below-at t) below.Post
 below-root-of-requires t c κs = search needs
 
--- src/lib.rt:78:5
 below-mul-marks : (t : ℕ) → below-lts.Need-mul-marks (
   opens-reads.Asked,
   opens-reads.Learnt,
@@ -154,7 +146,6 @@ below-mul-marks t c =
     let b : getD (s .args .cls .now) (s .args .p) 0 < length (s .args .marks .now) = s .pre .1 .0 .placed (s .args .p) lt in
     omega (arith, c .before .before .before .before .before .before .before .before .before .before .shared-slice-known3 .given (s .args .p))
 
--- src/lib.rt:78:5
 below-slice-write-marks : (t : ℕ) → below-lts.Need-slice-write-marks (
   opens-reads.Asked,
   opens-reads.Learnt,
@@ -172,7 +163,6 @@ below-slice-write-marks t c =
     let b : getD (s .args .cls .now) (s .args .p) 0 < length (s .args .marks .now) = s .pre .1 .0 .placed (s .args .p) lt in
     omega arith
 
--- src/lib.rt:79:29
 below-add-forest : (t : ℕ) → below-lts.Need-add-forest (
   opens-reads.Asked,
   opens-reads.Learnt,
@@ -188,7 +178,6 @@ below-add-forest t c =
     let deeper : s .args .level < s .args .limit = opened-level (s .args .cls .now) (s .args .limit) (s .args .p) (s .args .level) (s .args .marks .now) (sym (c .before .before .before .before .opens .ensures) ∙ not-false _ (c .before .before .before .if1 .left)) in
     omega (arith, s .fits)
 
--- src/lib.rt:79:9
 below-forest-requires : (t : ℕ) → below-lts.Need-forest-requires (
   opens-reads.Asked,
   opens-reads.Learnt,
@@ -204,7 +193,6 @@ below-forest-requires t c κs =
     let deeper : s .args .level < s .args .limit = opened-level (s .args .cls .now) (s .args .limit) (s .args .p) (s .args .level) (s .args .marks .now) (sym (c .before .before .before .before .before .before .opens .ensures) ∙ not-false _ (c .before .before .before .before .before .if1 .left)) in
     (omega (arith, s .pre .0), (whole-kept (sym (length-set (s .args .marks .now) (c .before .before .before .before .place .result) 1)) (s .pre .1 .0), omega (arith, s .pre .1 .1)))
 
--- src/lib.rt:80:5
 below-mul-marks-2 : (t : ℕ) → below-lts.Need-mul-marks-2 (
   opens-reads.Asked,
   opens-reads.Learnt,
@@ -222,7 +210,6 @@ below-mul-marks-2 t c =
     let b : getD (s .args .cls .now) (s .args .p) 0 < length (s .args .marks .now) = s .pre .1 .0 .placed (s .args .p) lt in
     omega (arith, c .before .before .before .before .before .before .before .before .before .before .before .before .before .before .before .before .before .shared-slice-known3 .given (s .args .p))
 
--- src/lib.rt:80:5
 below-slice-write-marks-2 : (t : ℕ) → below-lts.Need-slice-write-marks-2 (
   opens-reads.Asked,
   opens-reads.Learnt,
@@ -240,7 +227,6 @@ below-slice-write-marks-2 t c =
     let b : getD (s .args .cls .now) (s .args .p) 0 < length (s .args .marks .now) = s .pre .1 .0 .placed (s .args .p) lt in
     omega (arith, c .before .before .before .before .forest .kept, length-set (s .args .marks .now) (c .before .before .before .before .before .before .before .before .before .place .result) 1)
 
--- src/lib.rt:66:1
 below-same-length-2 : (t : ℕ) → below-lts.Need-same-length-2 (
   opens-reads.Asked,
   opens-reads.Learnt,
@@ -255,7 +241,6 @@ below-same-length-2 t c =
     let s = c .before .before .before .before .before .before .before .before .before .before .before .before .before .before .before .before .before .before .before .before in
     simp length-set (omega (arith, c .before .before .before .before .forest .kept, length-set (s .args .marks .now) (c .before .before .before .before .before .before .before .before .before .place .result) 1))
 
--- src/lib.rt:66:1
 below-same-length-3 : (t : ℕ) → below-lts.Need-same-length-3 (
   opens-reads.Asked,
   opens-reads.Learnt,
@@ -268,7 +253,6 @@ below-same-length-3 : (t : ℕ) → below-lts.Need-same-length-3 (
 ) (below-at t) below.Post
 below-same-length-3 t c = search needs
 
--- src/lib.rt:66:1
 below-returns-2 : (t : ℕ) → below-lts.Need-returns-2 (
   opens-reads.Asked,
   opens-reads.Learnt,
@@ -299,7 +283,6 @@ abbrev forest-μ-loop : forest-lts.MeasureT-loop
 forest-μ-loop first level limit parent root n cap check orphan child next cls numeral row marks₀ index₀ p₀ met₀ sum₀ marks index p met sum =
     length child - p
 
--- src/lib.rt:93:5
 forest-loop-holds : (t : ℕ) → forest-lts.Need-loop-holds (
   below-below t,
   below.Post,
@@ -312,7 +295,6 @@ forest-loop-holds t c =
     let s = c .before .before .before .before .before .before .before in
     (omega arith, omega (arith, s .pre .1 .1), refl, refl, λ on′ ix′ r w. w)
 
--- src/lib.rt:95:33
 forest-add-t23 : (t : ℕ) → forest-lts.Need-add-t23 (
   below-below t,
   below.Post,
@@ -323,7 +305,6 @@ forest-add-t23 : (t : ℕ) → forest-lts.Need-add-t23 (
 ) (forest-at t) forest.Post forest-Inv-loop forest-μ-loop
 forest-add-t23 t c = search needs
 
--- src/lib.rt:95:13
 forest-same-length : (t : ℕ) → forest-lts.Need-same-length (
   below-below t,
   below.Post,
@@ -335,7 +316,6 @@ forest-same-length : (t : ℕ) → forest-lts.Need-same-length (
 forest-same-length t c =
     c .before .before .loop .inv .2
 
--- src/lib.rt:95:13
 forest-same-length-2 : (t : ℕ) → forest-lts.Need-same-length-2 (
   below-below t,
   below.Post,
@@ -347,7 +327,6 @@ forest-same-length-2 : (t : ℕ) → forest-lts.Need-same-length-2 (
 forest-same-length-2 t c =
     c .before .before .loop .inv .3
 
--- src/lib.rt:95:13
 forest-returns : (t : ℕ) → forest-lts.Need-returns (
   below-below t,
   below.Post,
@@ -363,7 +342,6 @@ forest-returns t c =
     let deep : s .args .level ≤ s .args .limit = omega (arith, s .pre .1 .1) in
     (omega (arith, i .0, i .1), i .4 _ _ _ (siblings-full _ _ _ _ _ _ _ _ _ _ _ _ _ deep (c .before .loop-test .taken) e))
 
--- src/lib.rt:97:13
 forest-below-requires : (t : ℕ) → forest-lts.Need-below-requires (
   below-below t,
   below.Post,
@@ -377,7 +355,6 @@ forest-below-requires t c κs =
     let i = c .before .before .before .before .loop .inv in
     (omega (arith, s .pre .0), (whole-kept (sym (i .2)) (s .pre .1 .0), omega (arith, s .pre .1 .1, i .3, c .before .before .if1 .left, c .before .before .before .loop-test .taken)))
 
--- src/lib.rt:99:13
 forest-same-length-3 : (t : ℕ) → forest-lts.Need-same-length-3 (
   below-below t,
   below.Post,
@@ -389,7 +366,6 @@ forest-same-length-3 : (t : ℕ) → forest-lts.Need-same-length-3 (
 forest-same-length-3 t c =
     omega (arith, c .before .before .before .before .before .before .below .kept, c .before .before .before .before .before .before .before .before .before .before .before .loop .inv .2)
 
--- src/lib.rt:99:13
 forest-same-length-4 : (t : ℕ) → forest-lts.Need-same-length-4 (
   below-below t,
   below.Post,
@@ -401,7 +377,6 @@ forest-same-length-4 : (t : ℕ) → forest-lts.Need-same-length-4 (
 forest-same-length-4 t c =
     omega (arith, c .before .before .before .before .before .before .below .kept, c .before .before .before .before .before .before .before .before .before .before .before .loop .inv .3)
 
--- src/lib.rt:99:13
 forest-returns-2 : (t : ℕ) → forest-lts.Need-returns-2 (
   below-below t,
   below.Post,
@@ -416,7 +391,6 @@ forest-returns-2 t c =
     let deep : s .args .level ≤ s .args .limit = omega (arith, s .pre .1 .1) in
     (omega (arith, i .0, c .before .before .before .before .before .before .below .ensures .0), i .4 _ _ _ (siblings-over _ _ _ _ _ _ _ _ _ _ _ _ _ _ _ deep (c .before .before .before .before .before .before .before .before .before .before .loop-test .taken) (c .before .before .before .before .before .before .below .ensures .1) (c .if2 .taken)))
 
--- src/lib.rt:101:9
 forest-put-node-requires : (t : ℕ) → forest-lts.Need-put-node-requires (
   below-below t,
   below.Post,
@@ -430,7 +404,6 @@ forest-put-node-requires t c κs =
     let i = c .before .before .before .before .before .before .before .before .before .before .before .before .before .loop .inv in
     omega (arith, s .pre .1 .1, i .1, i .3, c .before .before .before .before .before .before .before .before .below .ensures .0, c .before .before .before .before .before .before .before .before .below .kept, c .before .before .if2 .left, c .before .before .before .before .before .before .before .before .before .before .before .if1 .left)
 
--- src/lib.rt:102:9
 forest-place-requires : (t : ℕ) → forest-lts.Need-place-requires (
   below-below t,
   below.Post,
@@ -441,7 +414,6 @@ forest-place-requires : (t : ℕ) → forest-lts.Need-place-requires (
 ) (forest-at t) forest.Post forest-Inv-loop forest-μ-loop
 forest-place-requires t c κs = search needs
 
--- src/lib.rt:93:5
 forest-loop-less : (t : ℕ) → forest-lts.Need-loop-less (
   below-below t,
   below.Post,
@@ -455,7 +427,6 @@ forest-loop-less t c =
     let up = s .pre .1 .0 .rising (c .before .before .before .before .before .before .before .before .before .before .before .before .before .before .before .before .before .loop .p) (c .before .before .before .before .before .before .before .before .before .before .before .before .before .before .before .before .loop-test .taken) in
     omega (arith, c .before .before .before .before .before .before .before .before .before .before .before .before .before .before .before .before .loop-test .taken, c .place .ensures)
 
--- src/lib.rt:93:5
 forest-loop-again : (t : ℕ) → forest-lts.Need-loop-again (
   below-below t,
   below.Post,
@@ -475,7 +446,6 @@ forest-loop-again t c =
       λ on′ ix′ r w. i .4 on′ ix′ r (siblings-step _ _ _ _ _ _ _ _ _ _ _ _ _ _ _ _ _ _ _ _ _ deep (c .before .before .before .before .before .before .before .before .before .before .before .before .before .before .before .before .loop-test .taken) (c .before .before .before .before .before .before .before .before .before .before .before .before .below .ensures .1) (c .before .before .before .before .before .before .if2 .left) (c .before .before .before .put-node .ensures) (c .place .ensures) w),
     )
 
--- src/lib.rt:85:1
 forest-same-length-5 : (t : ℕ) → forest-lts.Need-same-length-5 (
   below-below t,
   below.Post,
@@ -487,7 +457,6 @@ forest-same-length-5 : (t : ℕ) → forest-lts.Need-same-length-5 (
 forest-same-length-5 t c =
     c .before .loop .inv .2
 
--- src/lib.rt:85:1
 forest-same-length-6 : (t : ℕ) → forest-lts.Need-same-length-6 (
   below-below t,
   below.Post,
@@ -499,7 +468,6 @@ forest-same-length-6 : (t : ℕ) → forest-lts.Need-same-length-6 (
 forest-same-length-6 t c =
     c .before .loop .inv .3
 
--- src/lib.rt:85:1
 forest-returns-3 : (t : ℕ) → forest-lts.Need-returns-3 (
   below-below t,
   below.Post,

@@ -9,15 +9,12 @@ use Rattle.walk.proofs.closing.Lts as lts
 use Rattle.lists.proofs.get.Reads as get-reads
 use Rattle.walk.proofs.place.Reads as place-reads
 
--- src/lib.rt:33:27
 place-requires : tie.Need-place-requires
 place-requires c κs = search needs
 
--- src/lib.rt:33:9
 get-requires : tie.Need-get-requires
 get-requires c κs = search needs
 
--- src/lib.rt:30:1
 returns : tie.Need-returns
 returns c = cc (c .get .ensures, c .before .place .ensures)
 

@@ -9,15 +9,12 @@ use Rattle.walk.proofs.opens.Reads as reads
 use Rattle.walk.proofs.opens.Lts as lts
 use Rattle.walk.proofs.closing.Reads as closing-reads
 
--- src/lib.rt:40:8
 closing-requires : tie.Need-closing-requires
 closing-requires c κs = search needs
 
--- src/lib.rt:41:9
 returns : tie.Need-returns
 returns c = rw (sym (c .before .closing .ensures), c .if1 .taken)
 
--- src/lib.rt:37:1
 returns-2 : tie.Need-returns-2
 returns-2 c = rw (sym (c .before .closing .ensures), c .if1 .left)
 

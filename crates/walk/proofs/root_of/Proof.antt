@@ -8,11 +8,9 @@ use Rattle.walk.proofs.root_of.Tie as tie
 use Rattle.walk.proofs.root_of.Reads as reads
 use Rattle.walk.proofs.root_of.Lts as lts
 
--- src/lib.rt:16:1
 returns : tie.Need-returns
 returns c = search needs
 
--- src/lib.rt:16:1
 returns-2 : tie.Need-returns-2
 returns-2 c = or-else-root _ _ (c .if1 .left)
 
