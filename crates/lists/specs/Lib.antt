@@ -3,3 +3,4 @@ pub mod Stores
 pub mod Moves
 pub mod Choice
 pub mod Signed
+pub mod Digits
