@@ -121,14 +121,14 @@ scan-settled (b ∷ s) p = settled-onward (stepOf p b) (λ q. scanned q s) (scan
 -- ---- what is read as a row is a well-formed line
 
 -- what a byte can be, and what it then does
-data Byte (p : Scan) (b : ℕ) : Type 0 where
+pub data Byte (p : Scan) (b : ℕ) : Type 0 where
   newline : b ≡ 10 → Byte p b
   space : b ≡ 32 → stepOf p b ≡ spaceOf p → Byte p b
   minus : b ≡ 45 → stepOf p b ≡ minusOf p → Byte p b
   digit : Digit b → stepOf p b ≡ digitOf p (b - 48) → Byte p b
   other : stepOf p b ≡ Bad → Byte p b
 
-byte : (p : Scan) (b : ℕ) → Byte p b
+pub byte : (p : Scan) (b : ℕ) → Byte p b
 unfolding stepOf
 byte p b = newlines (eqb b 10) refl
   where

@@ -1,19 +1,17 @@
 -- A text as lines, what its lines say in order, and what a scan over it takes, as definitions. Assumes nothing.
+-- ---- the lines of a text: they end at newlines, "the last newline may be missing"
+-- what stands after the last newline is a line where it has a byte
 use Prim.Native.Nat.{ℕ, _+_}
 use mathlib.Core.List.{List, [], _∷_, _++_}
 use mathlib.Core.Bool.{Bool, cond, not, _&&_}
 use lib.Dec.{eqb}
 use lib.IntN.{ℤ}
-use lib.ListN.{length}
 use Rattle.lines.specs.Grammar.{Line}
 use Rattle.lines.specs.Scan.{fresh, finishOf, stepOf}
 use Rattle.lines.specs.declared.Scan.{Scan}
 use Rattle.lines.specs.declared.Step.{Step}
 use Rattle.lines.specs.declared.Step.the-variants.{More, Row, Bad}
 
--- ---- the lines of a text: they end at newlines, "the last newline may be missing"
-
--- what stands after the last newline is a line where it has a byte
 abbrev pub lastLine : List ℕ → List (List ℕ)
 lastLine [] = []
 lastLine (b ∷ l) = (b ∷ l) ∷ []
@@ -92,3 +90,6 @@ restOf broken k = record { rows = []; ending = badLine k }
 abbrev pub endedOf : List Values → Rest → ℕ → Read
 endedOf [] r k = restOf r k
 endedOf (v ∷ vs) r k = record { rows = v ∷ endedOf vs r (k + 1) .rows; ending = endedOf vs r (k + 1) .ending }
+
+abbrev pub readOf : Taken → ℕ → Read
+readOf t k = endedOf (t .rows) (t .rest) k

@@ -163,7 +163,8 @@ impl Scan {
     pub fn minus(self) -> Step
         ensures { λ r. ⌜ r ≡ minusOf self ⌝ }
     {
-        if self.field != 3 {
+        let field = self.field;
+        if field != 3 {
             return Step::Bad;
         }
         if self.digits {
