@@ -1,12 +1,18 @@
 -- What each byte does, as `space`, `minus` and `step` tell the bytes apart. Assumes nothing.
-use Prim.Native.Nat.{ℕ, _≤_, _<_, _-_, _%_}
+use Prim.Native.Nat.{ℕ, _≤_, _<_, _+_, _*_, _-_, _%_}
 use mathlib.Core.Path.{_≡_}
 use mathlib.Core.Bool.{true, false, not}
 use borrow.Author.Tests.{lt-ltb, le-ltb, eq-eqb, ne-eqb, not-true, not-false}
-use Rattle.lines.specs.Scan.{starting, signed, finishOf, spaceOf, minusOf, digitOf, stepOf}
+use Rattle.lines.specs.Scan.{starting, grown, signed, finishOf, spaceOf, minusOf, digitOf, stepOf}
 use Rattle.lines.specs.declared.Scan.{Scan}
 use Rattle.lines.specs.declared.Step.{Step}
 use Rattle.lines.specs.declared.Step.the-variants.{More, Bad}
+
+pub digit-wide : (p : Scan) (d : ℕ) → 4294967295 < p .value * 10 + d → Bad ≡ digitOf p d
+digit-wide p d h = simp (lt-ltb _ _ h)
+
+pub digit-fits : (p : Scan) (d : ℕ) → p .value * 10 + d ≤ 4294967295 → More (grown p (p .value * 10 + d)) ≡ digitOf p d
+digit-fits p d h = simp (le-ltb _ _ h)
 
 pub space-bare : (p : Scan) → not (p .digits) ≡ true → Bad ≡ spaceOf p
 space-bare p h = simp (not-true (p .digits) h)
