@@ -1,0 +1,5 @@
+pub mod Machine
+pub mod Calls
+pub mod States
+pub mod Steps
+pub mod Simulation
