@@ -15,3 +15,4 @@ pub mod PathLaws
 pub mod NodeLaws
 pub mod BodyWalks
 pub mod AdoptWalks
+pub mod BodyLaws
