@@ -16,3 +16,5 @@ pub mod NodeLaws
 pub mod BodyWalks
 pub mod AdoptWalks
 pub mod BodyLaws
+pub mod Tally
+pub mod Parents
