@@ -18,3 +18,5 @@ pub mod AdoptWalks
 pub mod BodyLaws
 pub mod Tally
 pub mod Parents
+pub mod Bounds
+pub mod RefusalLaws

@@ -70,7 +70,7 @@ within-one None p a h w = tt
 within-one (Limit (pos d)) p a h w = omega arith
 within-one (Limit (negsuc d)) p a h w = w
 
-rows-all : (P : ℕ → Type 0) (p : List ℕ) → ((i : ℕ) → i < length p → P (getD p i 0)) → (x : ℕ) → x ∈ p → P x
+pub rows-all : (P : ℕ → Type 0) (p : List ℕ) → ((i : ℕ) → i < length p → P (getD p i 0)) → (x : ℕ) → x ∈ p → P x
 rows-all P [] h x k = absurd k
 rows-all P (y ∷ p) h x (inl e) = subst P (sym e) (h 0 (omega arith))
 rows-all P (y ∷ p) h x (inr k) = rows-all P p (λ i b. h (suc i) (omega arith)) x k
