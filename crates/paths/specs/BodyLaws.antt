@@ -1,25 +1,24 @@
 -- The list of bodies beside the list of nodes: one body a node, what each field is, the running totals, the rows left over. Assumes nothing.
 use mathlib.Core.Path.{_≡_, refl, sym, ap, ap₂, subst, _∙_}
-use mathlib.Core.Logic.{_⊎_, inl, inr, ⊎-elim, _≢_, _↔_}
+use mathlib.Core.Logic.{_≢_, _↔_}
 use mathlib.Core.Bool.{Bool, true, false, not}
 use mathlib.Core.List.{List, [], _∷_, _++_, map}
-use Prim.Native.Nat.{ℕ, zero, suc, _+_, _-_, _≤_, _<_}
+use Prim.Native.Nat.{ℕ, _+_, _-_, _≤_, _<_}
 use native.Mathlib.Omega.{arith}
-use lib.Dec.{T, T-not, not-T}
+use lib.Dec.{T-not, not-T}
 use lib.IntN.{ℤ, pos, _+ℤ_}
-use lib.ListN.{length, getD, length-append, length-map, List·getD-append}
+use lib.ListN.{length, getD, length-map, List·getD-append}
 use Rattle.board.specs.declared.Row.{Row}
 use Rattle.image.specs.declared.Body.{Body}
 use Rattle.options.specs.declared.Depth.{Depth}
-use Rattle.lists.specs.Members.{_∈_, filter, filter-out, filter-in, map-append, map-agree, map-map, map-in, map-out, append-out, getD-in, getD-append-right, numbers, numbers-in, numbers-out, totalsFrom}
+use Rattle.lists.specs.Members.{_∈_, filter, filter-out, filter-in, map-append, map-agree, map-map, map-in, map-out, getD-append-right, numbers, numbers-in, numbers-out, totalsFrom}
 use Rattle.lists.specs.Stores.{getD-mapped}
 use Rattle.paths.specs.Forest.{memb}
 use Rattle.paths.specs.Rows.{row, num, RowOf}
-use Rattle.paths.specs.Paths.{last, closes, Orphan, Node, Regular}
+use Rattle.paths.specs.Paths.{last, closes, Orphan, Node}
 use Rattle.paths.specs.Nodes.{regular, orphanNodes, nodes}
 use Rattle.paths.specs.Bodies.{treeSize, parentRank, rootRank, nodeAt, minutesOf, runningTotals, body, orphanCloses, bodies, leftRows, leftOf}
 use Rattle.paths.specs.ForestLaws.{memb-in, memb-out}
-use Rattle.paths.specs.PathLaws.{regular-is}
 use Rattle.paths.specs.NodeLaws.{nodes-are}
 
 -- totals of what two lists say alike

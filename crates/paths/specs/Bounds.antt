@@ -1,21 +1,21 @@
 -- Of a board of at most 1,024 rows: no level is above 1,026, so it fits 16 bits; sizes and ranks are at most the number of nodes; and where the nodes number at most
 -- 65,535 no running total leaves 2^47 either side. Assumes nothing.
-use mathlib.Core.Path.{_≡_, refl, sym, ap, subst, _∙_}
-use mathlib.Core.Logic.{_⊎_, inl, inr, ⊎-elim}
+use mathlib.Core.Path.{_≡_, sym, ap, subst, _∙_}
+use mathlib.Core.Logic.{inl, inr}
 use mathlib.Core.Bool.{Bool, true, false, cond}
 use mathlib.Core.List.{List, [], _∷_}
-use Prim.Native.Nat.{ℕ, zero, suc, _+_, _*_, _-_, _≤_, _<_}
+use Prim.Native.Nat.{ℕ, zero, suc, _+_, _-_, _≤_, _<_}
 use native.Mathlib.Omega.{arith}
 use native.Mathlib.Decide.{decLt}
-use lib.IntN.{ℤ, pos, +ℤ-idl}
+use lib.IntN.{pos, +ℤ-idl}
 use lib.Signed.{mag}
 use lib.ListN.{length, getD, take, List·getD-eq-default, length-take}
 use Rattle.board.specs.declared.Row.{Row}
 use Rattle.image.specs.declared.Body.{Body}
 use Rattle.options.specs.declared.Depth.{Depth}
 use Rattle.lists.specs.Members.{_∈_, getD-in, place-of, filter-short, sum, sum-bound, totals-at}
-use Rattle.paths.specs.Rows.{noRow, row, num, RowOf}
-use Rattle.paths.specs.Paths.{init, last, Orphan, ignore, error, adopt, root, Regular, OrphanNode, Node}
+use Rattle.paths.specs.Rows.{noRow, row, RowOf}
+use Rattle.paths.specs.Paths.{init, last, Orphan, ignore, error, adopt, root, OrphanNode, Node}
 use Rattle.paths.specs.Nodes.{nodes}
 use Rattle.paths.specs.Bodies.{begins, samePath, rankFrom, nodeAt, minutesOf, runningTotals, bodies}
 use Rattle.paths.specs.PathLaws.{path-bounded, orphan-bounded}

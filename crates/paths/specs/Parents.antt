@@ -1,25 +1,25 @@
 -- A node's rank is where it stands; its parent is a node one row shorter, of lower rank; its first row alone is a node, of no higher rank. So a climb from parent to
 -- parent ends at a root. For no depth under every orphan choice, and for any depth with no orphan nodes. Assumes nothing.
 use mathlib.Core.Path.{_≡_, refl, sym, ap, subst, _∙_}
-use mathlib.Core.Logic.{_⊎_, inl, inr, ⊎-elim, _≢_, _↔_}
-use mathlib.Core.Bool.{Bool, true, false, cond, _&&_}
-use mathlib.Core.List.{List, [], _∷_, _++_, map}
+use mathlib.Core.Logic.{inl, inr, _≢_}
+use mathlib.Core.Bool.{Bool, true}
+use mathlib.Core.List.{List, [], _∷_}
 use Prim.Native.Nat.{ℕ, zero, suc, _+_, _-_, _≤_, _<_}
 use native.Mathlib.Omega.{arith}
 use native.Mathlib.Decide.{decLt}
 use lib.Dec.{T, eqb, eqb-refl}
-use lib.IntN.{ℤ, pos, negsuc}
+use lib.IntN.{pos, negsuc}
 use lib.ListN.{length, getD}
 use Rattle.board.specs.declared.Row.{Row}
 use Rattle.options.specs.declared.Depth.{Depth}
 use Rattle.options.specs.declared.Depth.the-variants.{None, Limit}
-use Rattle.lists.specs.Members.{_∈_, and-in, is-true, is-false, getD-in, place-of, Increasing}
+use Rattle.lists.specs.Members.{and-in, is-true, is-false, getD-in, place-of, Increasing}
 use Rattle.paths.specs.Rows.{num, par, RowOf}
-use Rattle.paths.specs.Paths.{init, last, head, Chain, Within, Orphan, ignore, error, adopt, root, Start, LastStart, Regular, Unreached, TopOrphan, OrphanPath, OrphanNode, Node}
+use Rattle.paths.specs.Paths.{init, head, Chain, Within, Orphan, ignore, error, adopt, root, Start, Regular, Unreached, TopOrphan, Node}
 use Rattle.paths.specs.Nodes.{nodes}
-use Rattle.paths.specs.Bodies.{begins, samePath, rankFrom, rankOf, nodeAt, treeSize, parentRank, rootRank}
+use Rattle.paths.specs.Bodies.{begins, samePath, rankFrom, rankOf, nodeAt, parentRank, rootRank}
 use Rattle.paths.specs.EmitLaws.{begins-both, rank-absent}
-use Rattle.paths.specs.Interval.{begins-refl, begins-length}
+use Rattle.paths.specs.Interval.{begins-refl}
 use Rattle.paths.specs.NodeLaws.{node-some, nodes-are, nodes-once, nodes-interval}
 
 init-length : (p : List ℕ) → length (init p) ≡ length p - 1

@@ -1,18 +1,18 @@
 -- Refusals 6 to 12 in the words of paths and nodes, one after the other, and what a build that is not refused has. Assumes nothing.
 use mathlib.Core.Path.{_≡_, refl, sym, ap, subst, _∙_}
-use mathlib.Core.Logic.{_⊎_, inl, inr, ⊎-elim, _≢_, _↔_}
-use mathlib.Core.Bool.{Bool, true, false, cond, not, _&&_, _||_}
+use mathlib.Core.Logic.{inl, _≢_, _↔_}
+use mathlib.Core.Bool.{Bool, true, false, cond}
 use mathlib.Core.List.{List, [], _∷_}
-use Prim.Native.Nat.{ℕ, zero, suc, _+_, _*_, _-_, _≤_, _<_}
+use Prim.Native.Nat.{ℕ, zero, suc, _-_, _<_}
 use native.Mathlib.Omega.{arith}
 use native.Mathlib.Decide.{decLt}
-use lib.Dec.{T, eqb, ltb, eqb→eq, eqb-refl, ltb→lt, lt→ltb}
+use lib.Dec.{T, eqb, eqb→eq, eqb-refl, ltb→lt, lt→ltb}
 use lib.ListN.{length, getD}
 use Rattle.board.specs.declared.Row.{Row}
 use Rattle.image.specs.declared.Body.{Body}
 use Rattle.options.specs.declared.Depth.{Depth}
 use Rattle.options.specs.Options.{orphanOf, multiOf, cycleOf}
-use Rattle.lists.specs.Members.{_∈_, filter, keep, keep-yes, keep-no, keep-tail, filter-none, getD-in, place-of}
+use Rattle.lists.specs.Members.{_∈_, filter, keep, keep-yes, keep-no}
 use Rattle.lists.specs.Choice.{after, after-first, after-none, cond-none}
 use Rattle.paths.specs.Rows.{RowOf}
 use Rattle.paths.specs.Paths.{Start, Unreached, TopOrphan}
