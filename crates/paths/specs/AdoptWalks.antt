@@ -4,7 +4,7 @@ use mathlib.Core.Path.{_≡_, refl, sym, ap, ap₂, subst, _∙_, fun-ext}
 use mathlib.Core.Logic.{_⊎_, inl, inr, ⊎-elim, _≢_}
 use mathlib.Core.Bool.{Bool, true, false, _&&_}
 use mathlib.Core.List.{List, [], _∷_, _++_, map, append-assoc, append-nil}
-use Prim.Native.Nat.{ℕ, zero, suc, _+_, _≤_, _<_}
+use Prim.Native.Nat.{ℕ, suc, _+_}
 use native.Mathlib.Omega.{arith}
 use lib.Dec.{T, eqb, eqb→eq, eqb-refl}
 use lib.ListN.{length, getD, drop, length-append, length-map}
@@ -12,18 +12,18 @@ use Rattle.board.specs.declared.Row.{Row}
 use Rattle.image.specs.declared.Body.{Body}
 use Rattle.options.specs.declared.Depth.the-variants.{None}
 use Rattle.options.specs.Options.{levelLimit}
-use Rattle.lists.specs.Members.{_∈_, and-out, and-in, keep-no, keep-yes, map-in, map-out, append-out, append-right, filter, filter-none, filter-append, filter-all, filter-map, map-append, flatMap, flatMap-append, Increasing, increasing-prefix}
-use Rattle.paths.specs.Forest.{memb, node, next, forest}
+use Rattle.lists.specs.Members.{_∈_, and-out, and-in, keep-no, keep-yes, map-in, map-out, append-out, append-right, filter, filter-none, filter-append, filter-all, filter-map, map-append, flatMap-append, Increasing, increasing-prefix}
+use Rattle.paths.specs.Forest.{node, next, forest}
 use Rattle.paths.specs.Emit.{emit}
 use Rattle.paths.specs.Rows.{num, par}
-use Rattle.paths.specs.Paths.{last, closes, Orphan, adopt}
+use Rattle.paths.specs.Paths.{closes, adopt}
 use Rattle.paths.specs.Nodes.{sorted, adopted, starts, regular, orphanRows, tops, orphans, orphanNodes, nodes}
 use Rattle.paths.specs.Bodies.{begins, rankFrom, treeSize, mkBody, orphanCloses, bodies}
 use Rattle.paths.specs.ForestLaws.{forest-nil, sound, complete, path-one, path-cons}
-use Rattle.paths.specs.EmitLaws.{begins-append, last-snoc, node-of, distinct-before, rank-at, rank-absent, emit-length, emits, bodyIn, Ok, next-distinct}
+use Rattle.paths.specs.EmitLaws.{begins-append, last-snoc, distinct-before, rank-at, rank-absent, emit-length, emits, bodyIn, Ok, next-distinct}
 use Rattle.paths.specs.SiblingLaws.{sorted-distinct}
-use Rattle.paths.specs.PathLaws.{starts-is, starts-distinct, unreached-distinct, tops-distinct, tops-is, regular-is, orphans-is}
-use Rattle.paths.specs.NodeLaws.{early, late, nodes-are, nodes-once}
+use Rattle.paths.specs.PathLaws.{starts-is, starts-distinct, unreached-distinct, tops-distinct, tops-is}
+use Rattle.paths.specs.NodeLaws.{early, late, nodes-once}
 use Rattle.paths.specs.BodyWalks.{closes-is, map-same, no-empty}
 
 begins-sub : (p q : List ℕ) (z : ℕ) → T (begins p q) → z ∈ p → z ∈ q

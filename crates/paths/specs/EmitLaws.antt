@@ -1,19 +1,19 @@
 -- The depth-first walk: one sibling at a time, its length, enough fuel, and that it writes the bodies that the list of all nodes defines by looking up and counting. Assumes nothing.
 use mathlib.Core.Path.{_≡_, refl, sym, ap, ap₂, subst, _∙_, fun-ext}
 use mathlib.Core.Logic.{_⊎_, inl, inr, ⊎-elim, _≢_}
-use mathlib.Core.Bool.{Bool, true, false, cond, _&&_, _||_}
+use mathlib.Core.Bool.{Bool, true, false, _||_}
 use mathlib.Core.List.{List, [], _∷_, _++_, map, append-assoc, append-nil}
 use Prim.Native.Nat.{ℕ, zero, suc, _+_, _≤_, _<_}
 use native.Mathlib.Omega.{arith}
 use lib.Dec.{T, eqb, eqb→eq, eqb-refl}
-use lib.ListN.{length, getD, length-append, length-map}
+use lib.ListN.{length, length-append, length-map}
 use borrow.Author.Tests.{eq-eqb}
-use Rattle.lists.specs.Members.{_∈_, and-out, and-in, is-true, is-false, keep, keep-yes, keep-no, filter, filter-none, filter-out, filter-all, filter-append, filter-filter, filter-map, map-append, map-agree, map-cong, map-map, flatMap, flatMap-out, map-out, Increasing, increasing-filter}
+use Rattle.lists.specs.Members.{_∈_, and-out, and-in, is-true, is-false, filter, filter-none, filter-all, filter-append, filter-filter, filter-map, map-append, map-agree, map-cong, map-map, flatMap, flatMap-out, map-out, Increasing, increasing-filter}
 use Rattle.paths.specs.Forest.{memb, node, next, children, unless, forest}
 use Rattle.paths.specs.Emit.{orElse, walk, visit, emit}
 use Rattle.paths.specs.Paths.{init, last, head}
-use Rattle.paths.specs.Bodies.{begins, samePath, rankFrom, rankOf, treeSize, parentRank, rootRank}
-use Rattle.paths.specs.ForestLaws.{forest-length, forest-nil, last-below, Short, short-next, short-none}
+use Rattle.paths.specs.Bodies.{begins, samePath, rankFrom, treeSize, parentRank, rootRank}
+use Rattle.paths.specs.ForestLaws.{forest-length, last-below, bounded, Short, short-next, short-none}
 use Rattle.paths.specs.Interval.{begins-refl}
 
 pub begins-append : (pre p q : List ℕ) → begins (pre ++ p) (pre ++ q) ≡ begins p q
@@ -172,6 +172,18 @@ module _ {B : Type 0} (mk : ℕ → ℕ → ℕ → ℕ → ℕ → Bool → B) 
       walk-agree _ _ sibs k
       (λ x m k. ap (λ (sub : List B). mk x (suc (length sub)) parent (orElse root k) level (memb (num x) seen) ∷ sub)
       (emit-enough f g (num x ∷ seen) (next num par pool seen x) k (orElse root k) (suc level) (suc k) (short-next num par pool f seen sibs x m s) (omega arith)))
+
+  -- fuel for one row more than the pool has, or any number of rows not below its own, is enough; below a first row, one less
+  pub emit-any : (n f : ℕ) (sibs : List ℕ) (parent root level k : ℕ) → length pool ≤ n → ((x : ℕ) → x ∈ sibs → x ∈ pool) → suc n ≤ f
+      → emit mk num par pool f [] sibs parent root level k ≡ emit mk num par pool (suc n) [] sibs parent root level k
+  emit-any n f sibs parent root level k b sub h =
+      emit-enough (suc n) f [] sibs parent root level k (λ p g. omega (arith, bounded num par pool [] sibs p sub g)) h
+
+  pub emit-below-any : (n f a parent root level k : ℕ) → length pool ≤ n → a ∈ pool → n ≤ f
+      → emit mk num par pool f (num a ∷ []) (next num par pool [] a) parent root level k ≡ emit mk num par pool n (num a ∷ []) (next num par pool [] a) parent root level k
+  emit-below-any n f a parent root level k b m h =
+      emit-enough n f (num a ∷ []) (next num par pool [] a) parent root level k
+      (short-next num par pool n [] (a ∷ []) a (inl refl) (λ p g. omega (arith, bounded num par pool [] (a ∷ []) p (λ x. ⊎-elim (λ e. subst (λ y. y ∈ pool) (sym e) m) (λ e. absurd e)) g))) h
 
   module _ (W : List (List ℕ)) (cl : List ℕ → Bool) (distinct : Increasing (λ u v. u ≢ v) W) (pool-distinct : Increasing (λ u v. u ≢ v) pool) where
     abbrev pub rank : List ℕ → ℕ

@@ -1,13 +1,13 @@
 -- The list of paths over a pool of rows: what it holds, its order, how long a path can be, and that more fuel than that changes nothing. Assumes nothing.
 use mathlib.Core.Path.{_≡_, refl, sym, ap, ap₂, subst, subst₂, _∙_}
 use mathlib.Core.Logic.{_⊎_, inl, inr, ⊎-elim, _≢_, _↔_}
-use mathlib.Core.Bool.{Bool, true, false, _||_}
-use mathlib.Core.List.{List, [], _∷_, _++_, map}
+use mathlib.Core.Bool.{Bool, true, false}
+use mathlib.Core.List.{List, [], _∷_, _++_}
 use Prim.Native.Nat.{ℕ, zero, suc, _+_, _≤_, _<_}
 use native.Mathlib.Omega.{arith}
 use lib.Dec.{T, eqb, eqb→eq, eqb-refl}
 use lib.ListN.{length, getD, length-append, length-map}
-use Rattle.lists.specs.Members.{_∈_, or-out, or-left, or-right, filter, filter-out, filter-in, flatMap, flatMap-out, flatMap-in, map-out, map-in, Increasing, increasing-flatMap, increasing-map, increasing-filter, pigeonhole}
+use Rattle.lists.specs.Members.{_∈_, or-out, or-left, or-right, filter-out, filter-in, flatMap, flatMap-out, flatMap-in, map-out, map-in, Increasing, increasing-flatMap, increasing-map, increasing-filter, pigeonhole}
 use Rattle.paths.specs.Forest.{memb, unless, node, children, next, forest}
 use Rattle.paths.specs.Paths.{init, last, Before}
 
@@ -268,3 +268,7 @@ module _ (num par : ℕ → ℕ) (pool : List ℕ) where
   forest-enough (suc f) (suc g) seen sibs s h =
       flatMap-agree (λ x. node x (forest num par pool g (num x ∷ seen) (next num par pool seen x))) (λ x. node x (forest num par pool f (num x ∷ seen) (next num par pool seen x))) sibs
       (λ y m. ap (node y) (forest-enough f g (num y ∷ seen) (next num par pool seen y) (short-next f seen sibs y m s) (omega arith)))
+
+  -- fuel for one row more than the pool has, or any number of rows not below its own, is enough
+  pub forest-any : (n f : ℕ) (sibs : List ℕ) → length pool ≤ n → ((x : ℕ) → x ∈ sibs → x ∈ pool) → suc n ≤ f → forest num par pool f [] sibs ≡ forest num par pool (suc n) [] sibs
+  forest-any n f sibs b sub h = forest-enough (suc n) f [] sibs (λ p g. omega (arith, bounded [] sibs p sub g)) h

@@ -15,3 +15,8 @@ pub mod PathLaws
 pub mod NodeLaws
 pub mod BodyWalks
 pub mod AdoptWalks
+pub mod BodyLaws
+pub mod Tally
+pub mod Parents
+pub mod Bounds
+pub mod RefusalLaws
