@@ -214,6 +214,11 @@ module _ {A B : Type 0} where
   map-cong g h e [] = refl
   map-cong g h e (x ∷ l) = ap₂ _∷_ (e x) (map-cong g h e l)
 
+  -- two functions that agree on the list
+  pub map-agree : (g h : A → B) (l : List A) → ((x : A) → x ∈ l → g x ≡ h x) → map g l ≡ map h l
+  map-agree g h [] e = refl
+  map-agree g h (x ∷ l) e = ap₂ _∷_ (e x (inl refl)) (map-agree g h l (λ y m. e y (inr m)))
+
   abbrev pub flatMap : (A → List B) → List A → List B
   flatMap g [] = []
   flatMap g (x ∷ l) = g x ++ flatMap g l
@@ -419,6 +424,10 @@ numbers-length k (suc n) = ap suc (numbers-length (suc k) n)
 pub numbers-distinct : (k n : ℕ) → Increasing (λ x y. x ≢ y) (numbers k n)
 numbers-distinct k zero = tt
 numbers-distinct k (suc n) = ((λ y m e. absurd (omega (arith, numbers-out (suc k) n y m))), numbers-distinct (suc k) n)
+
+pub numbers-rising : (k n : ℕ) → Increasing _<_ (numbers k n)
+numbers-rising k zero = tt
+numbers-rising k (suc n) = ((λ y m. omega (arith, numbers-out (suc k) n y m)), numbers-rising (suc k) n)
 
 pub getD-numbers : (i n k : ℕ) → k < n → getD (numbers i n) k 0 ≡ i + k
 getD-numbers i zero k h = absurd (omega arith)

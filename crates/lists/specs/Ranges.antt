@@ -1,18 +1,14 @@
--- Tests on the numbers from 1 to n: one that holds at all of them, and the largest at which one holds. Assumes nothing.
+-- Tests on the numbers from 1 to n: a test that holds at all of them, and the largest number at which a test holds; and limits with both signs changed. Assumes nothing.
 use mathlib.Core.Path.{_≡_, refl, sym, ap, _∙_}
-use mathlib.Core.Bool.{Bool, true, false, cond, _&&_}
+use mathlib.Core.Bool.{Bool, true, false, cond, _&&_, true≢false, and-comm}
 use Prim.Native.Nat.{ℕ, zero, suc, _+_, _-_, _≤_, _<_}
 use native.Mathlib.Numerals.{add-one}
 use native.Mathlib.Decide.{ℕ-discrete}
 use native.Mathlib.Omega.{arith}
+use lib.Dec.{leb·zero, leb·suc-zero, leb·suc-suc}
+use lib.IntN.{ℤ, pos, negsuc, negℤ}
+use lib.Signed.{leZ}
 use Rattle.lists.specs.Choice.{and-yes}
-
-pub and-no : (a : Bool) → a && false ≡ false
-and-no true = refl
-and-no false = refl
-
-pub true-false : (b : Bool) → b ≡ true → b ≡ false → ⊥
-true-false b e f = let z : _≡_ {A = ℕ} 0 1 = cc in omega arith
 
 -- the test holds at every number from 1 to n
 abbrev pub allTo : (ℕ → Bool) → ℕ → Bool
@@ -48,7 +44,7 @@ module _ (f : ℕ → Bool) where
   all-fails n k h b e = here (allTo f n) refl
     where
       here : (t : Bool) → allTo f n ≡ t → allTo f n ≡ false
-      here true q = absurd (true-false (f k) (all-at n k q h b) e)
+      here true q = absurd (true≢false (sym (all-at n k q h b) ∙ e))
       here false q = q
 
   pub largest-here : (n : ℕ) → 0 < n → f n ≡ true → largestTo f n ≡ n
@@ -80,7 +76,7 @@ module _ (f : ℕ → Bool) where
     where
       here : (t : Bool) → f (suc n) ≡ t → Dec (k ≡ suc n) → (k ≤ n → k ≤ largestTo f n) → k ≤ cond t (suc n) (largestTo f n)
       here true q d lower = b
-      here false q (yes i) lower = absurd (true-false (f k) e (ap f i ∙ q))
+      here false q (yes i) lower = absurd (true≢false (sym e ∙ ap f i ∙ q))
       here false q (no i) lower = lower (omega arith)
 
   -- numbers at the end at which the test fails don't count
@@ -91,3 +87,24 @@ module _ (f : ℕ → Bool) where
       here : Dec (j ≡ suc n) → (j ≤ n → largestTo f n ≡ largestTo f j) → largestTo f (suc n) ≡ largestTo f j
       here (yes q) lower = sym (ap (largestTo f) q)
       here (no q) lower = ap (λ (t : Bool). cond t (suc n) (largestTo f n)) (fails (suc n) (omega arith) (omega arith)) ∙ lower (omega arith)
+
+-- ---- limits on signed numbers
+
+-- the order turns round where both signs change
+pub le-negate : (a b : ℤ) → leZ a b ≡ leZ (negℤ b) (negℤ a)
+le-negate (pos zero) (pos zero) = refl
+le-negate (pos zero) (pos (suc b)) = leb·zero (suc b)
+le-negate (pos (suc a)) (pos zero) = leb·suc-zero a
+le-negate (pos (suc a)) (pos (suc b)) = leb·suc-suc a b
+le-negate (pos zero) (negsuc b) = sym (leb·suc-zero b)
+le-negate (pos (suc a)) (negsuc b) = refl
+le-negate (negsuc a) (pos zero) = sym (leb·zero (suc a))
+le-negate (negsuc a) (pos (suc b)) = refl
+le-negate (negsuc a) (negsuc b) = sym (leb·suc-suc b a)
+
+-- a number is within limits where its negative is within the negative limits
+pub limits-negate : (lo hi d : ℤ) → (leZ lo d && leZ d hi) ≡ (leZ (negℤ hi) (negℤ d) && leZ (negℤ d) (negℤ lo))
+limits-negate lo hi d =
+    and-comm (leZ lo d) (leZ d hi)
+    ∙ ap (λ (t : Bool). t && leZ lo d) (le-negate d hi)
+    ∙ ap (λ (t : Bool). leZ (negℤ hi) (negℤ d) && t) (le-negate lo d)

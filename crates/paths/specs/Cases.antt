@@ -2,11 +2,13 @@
 use mathlib.Core.Path.{_≡_, refl}
 use mathlib.Core.Bool.{Bool, true, false}
 use mathlib.Core.List.{List, [], _∷_, map}
-use mathlib.Core.Option.{Option, none, some}
 use Prim.Native.Nat.{ℕ, zero, suc}
 use lib.IntN.{ℤ, pos, negsuc}
 use lib.ListN.{length, getD}
 use Rattle.board.specs.declared.Row.{Row}
+use Rattle.options.specs.declared.Depth.{Depth}
+use Rattle.options.specs.declared.Depth.the-variants.{None, Limit}
+use Rattle.options.specs.Options.{levelLimit}
 use Rattle.image.specs.declared.Body.{Body}
 use Rattle.lists.specs.Members.{sort, insert, numbers}
 use Rattle.paths.specs.Forest.{forest}
@@ -48,26 +50,26 @@ unfoldable pub sums : List ℤ
 sums = pos 15 ∷ pos 6 ∷ pos 2 ∷ pos 1 ∷ pos 2 ∷ pos 4 ∷ pos 1 ∷ negsuc 0 ∷ pos 7 ∷ []
 
 -- the number of nodes and the rows left over
-abbrev pub counts : List Row → Option ℤ → Orphan → ℕ × ℕ
+abbrev pub counts : List Row → Depth → Orphan → ℕ × ℕ
 counts R depth o = (length (bodies R parentZero depth o), leftOf R parentZero depth o)
 
 -- the refusal of a build on slices that are long enough
 abbrev pub refused : List Row → ℕ → ℕ
-refused R code = refusalOf R code none parentZero 100 100
+refused R code = refusalOf R code None parentZero 100 100
 
 pub record PathCases : Type 0 where
-  pub m1 : (refused sample 3 ≡ 0) × (bodies sample parentZero none root ≡ listing)
-  pub m1-sums : map (subtreeSum sample (nodes sample parentZero none root)) (numbers 1 9) ≡ sums
-  pub m2 : (refused sample 0 ≡ 0) × (counts sample none ignore ≡ (8, 1))
-  pub m3 : (refused sample 2 ≡ 0) × (map (λ (b : Body). b .size) (bodies sample parentZero none adopt) ≡ 9 ∷ 4 ∷ 3 ∷ 2 ∷ 1 ∷ 3 ∷ 2 ∷ 1 ∷ 1 ∷ [])
-  pub m3-rank9 : getD (bodies sample parentZero none adopt) 8 (printed 0 0 0 0 false false 0 0) ≡ printed 1 1 2 1 false true 91 7
-  pub m4 : (counts sample (some (pos 0)) ignore ≡ (1, 6)) × (counts sample (some (negsuc 0)) ignore ≡ (0, 7))
+  pub m1 : (refused sample 3 ≡ 0) × (bodies sample parentZero None root ≡ listing)
+  pub m1-sums : map (subtreeSum sample (nodes sample parentZero None root)) (numbers 1 9) ≡ sums
+  pub m2 : (refused sample 0 ≡ 0) × (counts sample None ignore ≡ (8, 1))
+  pub m3 : (refused sample 2 ≡ 0) × (map (λ (b : Body). b .size) (bodies sample parentZero None adopt) ≡ 9 ∷ 4 ∷ 3 ∷ 2 ∷ 1 ∷ 3 ∷ 2 ∷ 1 ∷ 1 ∷ [])
+  pub m3-rank9 : getD (bodies sample parentZero None adopt) 8 (printed 0 0 0 0 false false 0 0) ≡ printed 1 1 2 1 false true 91 7
+  pub m4 : (counts sample (Limit (pos 0)) ignore ≡ (1, 6)) × (counts sample (Limit (negsuc 0)) ignore ≡ (0, 7))
   pub m5 : (refused sample 12 ≡ 10) × (refused sample 4 ≡ 11) × (refused sample 1 ≡ 12)
   pub m9 : refused sample 24 ≡ 6
-  pub m10 : (refused [] 0 ≡ 0) × (counts [] none ignore ≡ (0, 0))
+  pub m10 : (refused [] 0 ≡ 0) × (counts [] None ignore ≡ (0, 0))
 
 pub path-cases : PathCases
-unfolding sample listing sums sorted starts regular orphanRows tops orphans orphanNodes nodes bodies leftRows leftOf subtreeSum refusalOf forest sort insert
+unfolding sample listing sums sorted starts regular orphanRows tops orphans orphanNodes nodes bodies leftRows leftOf subtreeSum refusalOf levelLimit forest sort insert
 path-cases = record {
   m1 = (refl, refl);
   m1-sums = refl;
@@ -81,6 +83,6 @@ path-cases = record {
 }
 
 -- a depth of the largest i32 computes as quickly
-deep : counts sample (some (pos 2147483647)) ignore ≡ (8, 1)
-unfolding sample sorted starts regular orphanRows tops orphans orphanNodes nodes bodies leftRows leftOf forest sort insert
+deep : counts sample (Limit (pos 2147483647)) ignore ≡ (8, 1)
+unfolding sample sorted starts regular orphanRows tops orphans orphanNodes nodes bodies leftRows leftOf levelLimit forest sort insert
 deep = refl

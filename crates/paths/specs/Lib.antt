@@ -7,3 +7,11 @@ pub mod Bodies
 pub mod Refusals
 pub mod Emit
 pub mod Cases
+pub mod ForestLaws
+pub mod Interval
+pub mod EmitLaws
+pub mod SiblingLaws
+pub mod PathLaws
+pub mod NodeLaws
+pub mod BodyWalks
+pub mod AdoptWalks
