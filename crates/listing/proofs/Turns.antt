@@ -2,7 +2,7 @@
 use Prim.Native.Nat.{ℕ, _+_, _%_, _≤_, _<_}
 use mathlib.Core.Path.{_≡_, refl, sym, ap, ap₂, _∙_}
 use mathlib.Core.Bool.{Bool, true, false, cond}
-use mathlib.Core.List.{List, [], _∷_}
+use mathlib.Core.List.{List}
 use lib.IntN.{ℤ}
 use lib.ListN.{length, drop, drop-of-length-le}
 use borrow.Author.Tests.{eq-eqb, ne-eqb}
@@ -15,9 +15,10 @@ use Rattle.lines.specs.declared.Step.the-variants as step
 use Rattle.lines.specs.declared.Found.{Found}
 use Rattle.lines.specs.declared.Found.the-variants as found
 use Rattle.lines.specs.Scan.{fresh, blankOf, finishOf, nextOf}
-use Rattle.lines.specs.Text.{Values, values, Rest, within, broken, takenOf}
+use Rattle.lines.specs.Text.{values, takenOf}
 use Rattle.lines.specs.Chunks.{onFound, next-taken, next-later}
-use Rattle.listing.specs.Loading.{startOf, stopped, rowOf, enterOf, goesOn, isBad, enterAll, restOf, absorb, feedOf, lastOf, endOf}
+use Rattle.listing.specs.Whole.{feed-stopped}
+use Rattle.listing.specs.Loading.{startOf, stopped, rowOf, enterOf, goesOn, isBad, absorb, feedOf, lastOf, endOf}
 use Rattle.listing.specs.declared.Load.{Load}
 
 pub started : (x : Scan) (b : Board) → x ≡ fresh → b ≡ emptyOf → record { refusal = 0; bad = false; line = 1; scan = x; board = b } ≡ startOf
@@ -28,6 +29,9 @@ pub entered : (l : Load) (e : Edited) (x : Scan) (a n o : ℕ) (m z : ℤ) → e
 entered l e x a n o m z p u q =
     ap₂ {C = Load} (λ (e : Edited) (x : Scan). record { refusal = e .refusal; bad = l .bad; line = l .line % 4294967296 + 1; scan = x; board = e .board })
     (p ∙ ap (λ (y : ℤ). addOf (l .board) (rowOf (values a n o y))) u) q
+
+pub spoiled : (l : Load) (x : Scan) → x ≡ fresh → record { refusal = l .refusal; bad = true; line = l .line; scan = x; board = l .board } ≡ isBad l
+spoiled l x q = ap {B = Load} (λ (x : Scan). record { refusal = l .refusal; bad = true; line = l .line; scan = x; board = l .board }) q
 
 module _ (l : Load) where
   stopped-refused : (l .refusal ≡ 0 → ⊥) → stopped l ≡ true
@@ -72,24 +76,11 @@ module _ (l : Load) where
 
   -- ---- a chunk
 
-  enter-none : stopped l ≡ true → (vs : List Values) → enterAll l vs ≡ l
-  enter-none h [] = refl
-  enter-none h (v ∷ vs) = rw h
-
-  rest-none : stopped l ≡ true → (r : Rest) → restOf l r ≡ l
-  rest-none h (within q) = rw h
-  rest-none h broken = rw h
-
-  feed-stopped : (s : List ℕ) → stopped l ≡ true → l ≡ feedOf l s
-  unfolding feedOf
-  feed-stopped s h =
-      sym (ap (λ (k : Load). restOf k (takenOf (l .scan) s .rest)) (enter-none h (takenOf (l .scan) s .rows)) ∙ rest-none h (takenOf (l .scan) s .rest))
-
   pub feed-refused : (s : List ℕ) → (l .refusal ≡ 0 → ⊥) → l ≡ feedOf l s
-  feed-refused s h = feed-stopped s (stopped-refused h)
+  feed-refused s h = feed-stopped l s (stopped-refused h)
 
   pub feed-bad : (s : List ℕ) → l .refusal ≡ 0 → l .bad ≡ true → l ≡ feedOf l s
-  feed-bad s r h = feed-stopped s (stopped-bad r h)
+  feed-bad s r h = feed-stopped l s (stopped-bad r h)
 
   cond-same : (t : Bool) → l ≡ cond t l l
   cond-same true = refl

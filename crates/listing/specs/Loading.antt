@@ -1,10 +1,10 @@
 -- What a chunk of the input does to the load of a board, as definitions. Assumes nothing.
+-- the first line of the input is line 1
 use Prim.Native.Nat.{ℕ, _+_, _%_}
 use mathlib.Core.Bool.{Bool, true, false, cond, not, _||_}
 use mathlib.Core.List.{List, [], _∷_}
 use lib.Dec.{eqb}
 use Rattle.board.specs.declared.Row.{Row}
-use Rattle.board.specs.declared.Board.{Board}
 use Rattle.board.specs.declared.Edited.{Edited}
 use Rattle.board.specs.Edits.{addOf, emptyOf}
 use Rattle.lines.specs.declared.Scan.{Scan}
@@ -14,7 +14,6 @@ use Rattle.lines.specs.Scan.{fresh, blankOf, finishOf}
 use Rattle.lines.specs.Text.{Values, values, Rest, within, broken, Taken, takenOf}
 use Rattle.listing.specs.declared.Load.{Load}
 
--- the first line of the input is line 1
 abbrev pub startOf : Load
 startOf = record { refusal = 0; bad = false; line = 1; scan = fresh; board = emptyOf }
 
@@ -36,7 +35,7 @@ abbrev pub goesOn : Load → Scan → Load
 goesOn l q = record { refusal = l .refusal; bad = l .bad; line = l .line; scan = q; board = l .board }
 
 abbrev pub isBad : Load → Load
-isBad l = record { refusal = l .refusal; bad = true; line = l .line; scan = l .scan; board = l .board }
+isBad l = record { refusal = l .refusal; bad = true; line = l .line; scan = fresh; board = l .board }
 
 -- rows in order, up to the first that is refused
 abbrev pub enterAll : Load → List Values → Load

@@ -6,7 +6,7 @@ use lines::Scan;
 use lines::Step;
 ghost use mathlib.Core.Path.{_≡_};
 ghost use Rattle.lines.specs.Text.{values};
-ghost use Rattle.listing.specs.Loading.{startOf, enterOf, feedOf, endOf};
+ghost use Rattle.listing.specs.Loading.{startOf, enterOf, isBad, feedOf, endOf};
 
 // How far the input has been read: the refusal of the first row that was refused (0 if none was), whether a line is bad,
 // the number of the line that is being read, the scan of that line, and the rows so far.
@@ -52,6 +52,20 @@ impl Load {
         }
     }
 
+    // The line that is being read is no row.
+    fn bad_line(self) -> Load
+        ensures { λ r. ⌜ r ≡ isBad self ⌝ }
+    {
+        let board = self.board;
+        Load {
+            refusal: self.refusal,
+            bad: true,
+            line: self.line,
+            scan: Scan::new(),
+            board,
+        }
+    }
+
     // The input has ended; its last newline may be missing.
     pub fn end(self) -> Load
         ensures { λ r. ⌜ r ≡ endOf self ⌝ }
@@ -73,11 +87,7 @@ impl Load {
                 order,
                 minutes,
             ),
-            Step::Bad => {
-                let mut now = self;
-                now.bad = true;
-                now
-            }
+            Step::Bad => self.bad_line(),
             Step::More(_) => self,
         }
     }
@@ -102,10 +112,7 @@ pub fn feed(load: Load, chunk: &[u8]) -> Load
                 at = next;
                 now = now.enter(parent, numeral, order, minutes);
             }
-            Found::Bad => {
-                now.bad = true;
-                return now;
-            }
+            Found::Bad => return now.bad_line(),
             Found::More(q) => {
                 now.scan = q;
                 return now;

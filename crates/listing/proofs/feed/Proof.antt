@@ -58,11 +58,14 @@ loop-again c =
 enum-told : tie.Need-enum-told Inv-loop μ-loop
 enum-told c = search needs
 
+bad-line-requires : tie.Need-bad-line-requires Inv-loop μ-loop
+bad-line-requires c κs = search needs
+
 returns-3 : tie.Need-returns-3 Inv-loop μ-loop
 returns-3 c =
-    let s = c .before .before .before .before .before .before .before .before .before .before .args .chunk .now in
-    let l = c .before .before .before .before .before .before .before .before .loop in
-    feed-bad-line (l .now) s (l .at) (c .before .before .before .before .before .if1 .left) (c .before .before .before .before .if2 .left) (c .before .before .next .result) (c .before .before .next .ensures) (c .enum-told .given .1) ∙ l .inv
+    let s = c .before .before .before .before .before .before .before .before .before .before .before .args .chunk .now in
+    let l = c .before .before .before .before .before .before .before .before .before .loop in
+    c .bad-line .ensures ∙ feed-bad-line (l .now) s (l .at) (c .before .before .before .before .before .before .if1 .left) (c .before .before .before .before .before .if2 .left) (c .before .before .before .next .result) (c .before .before .before .next .ensures) (c .before .enum-told .given .1) ∙ l .inv
 
 enum-known-q : tie.Need-enum-known-q Inv-loop μ-loop
 enum-known-q c = search needs
@@ -94,6 +97,7 @@ feed-spec =
     loop-less
     loop-again
     enum-told
+    bad-line-requires
     returns-3
     enum-known-q
     returns-4

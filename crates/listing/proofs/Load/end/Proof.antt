@@ -1,4 +1,5 @@
 -- `Load::end` meets its contract, branch by branch. Assumes nothing.
+use mathlib.Core.Path.{_∙_}
 use mir.Syntax.{w32}
 use mir.Facts.{toZ-ofZ}
 use borrow.Author.Needs.{needs}
@@ -31,6 +32,9 @@ enter-requires c κs = search needs
 enum-told : tie.Need-enum-told
 enum-told c = search needs
 
+bad-line-requires : tie.Need-bad-line-requires
+bad-line-requires c κs = search needs
+
 enum-told-2 : tie.Need-enum-told-2
 enum-told-2 c = search needs
 
@@ -44,10 +48,10 @@ returns-4 c =
 
 returns-5 : tie.Need-returns-5
 returns-5 c =
-    let l = c .before .before .before .before .before .before .before .before .before .args .self in
-    let b = c .before .before .before .before .blank in
-    let f = c .before .before .finish in
-    end-last-bad l (c .before .before .before .before .before .before .before .if1 .left) (c .before .before .before .before .before .before .if2 .left) (b .result) (b .ensures) (c .before .before .before .if3 .left) (f .result) (f .ensures) (c .enum-told .given .1)
+    let l = c .before .before .before .before .before .before .before .before .before .before .args .self in
+    let b = c .before .before .before .before .before .blank in
+    let f = c .before .before .before .finish in
+    c .bad-line .ensures ∙ end-last-bad l (c .before .before .before .before .before .before .before .before .if1 .left) (c .before .before .before .before .before .before .before .if2 .left) (b .result) (b .ensures) (c .before .before .before .before .if3 .left) (f .result) (f .ensures) (c .before .enum-told .given .1)
 
 returns-6 : tie.Need-returns-6
 returns-6 c =
@@ -68,6 +72,7 @@ end-spec =
     enum-known-parent
     enter-requires
     enum-told
+    bad-line-requires
     enum-told-2
     returns-4
     returns-5
