@@ -1,8 +1,8 @@
 -- A board's rows and entries, its soundness, and the complete answer of each edit: definitions only. Assumes nothing.
-use Prim.Native.Nat.{ℕ, zero, suc, _+_, _-_}
-use mathlib.Core.Bool.{Bool, true, false, cond, _&&_, _||_}
+use Prim.Native.Nat.{ℕ, _+_, _-_}
+use mathlib.Core.Bool.{Bool, cond, _&&_, _||_}
 use mathlib.Core.List.{List, [], _∷_, _++_}
-use lib.ListN.{length, take, drop, getD, set, replicate}
+use lib.ListN.{length, take, getD, set, replicate}
 use lib.IntN.{ℤ}
 use lib.Dec.{eqb, leb, ltb}
 use Rattle.lists.specs.Stores.{front}

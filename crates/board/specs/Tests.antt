@@ -1,6 +1,6 @@
 -- The test that the code makes of the newest entry: a definition. Assumes nothing.
-use Prim.Native.Nat.{ℕ, zero, suc}
-use mathlib.Core.Bool.{Bool, true, false, cond}
+use Prim.Native.Nat.{ℕ}
+use mathlib.Core.Bool.{Bool, false, cond}
 use lib.Dec.{eqb, leb, ltb}
 use Rattle.board.specs.declared.Entry.{Entry}
 

@@ -3,3 +3,5 @@ pub mod Calls
 pub mod States
 pub mod Steps
 pub mod Simulation
+pub mod Encoding
+pub mod Replays

@@ -1,9 +1,9 @@
 -- The plain machine: a list R of rows and a list K of earlier row lists, newest first. Definitions only, in the words of "Board and its plain machine". Assumes nothing.
-use Prim.Native.Nat.{ℕ, zero, suc, _-_}
-use mathlib.Core.Bool.{Bool, true, false, cond, _||_}
+use Prim.Native.Nat.{ℕ, _-_}
+use mathlib.Core.Bool.{cond}
 use mathlib.Core.List.{List, [], _∷_, _++_}
 use lib.ListN.{length, take, getD, set}
-use lib.Dec.{eqb, leb, ltb}
+use lib.Dec.{eqb, leb}
 use Rattle.lists.specs.Moves.{without}
 use Rattle.board.specs.declared.Row.{Row}
 use Rattle.board.specs.Journal.{blank}

@@ -2,14 +2,14 @@
 use mathlib.Core.Path.{_≡_, refl, sym, ap, _∙_}
 use Prim.Native.Nat.{ℕ}
 use native.Mathlib.Omega.{arith}
-use mathlib.Core.Bool.{Bool, true}
+use mathlib.Core.Bool.{true}
 use mathlib.Core.List.{List, [], _∷_, reverse}
 use lib.ListN.{length, take, length-replicate, length-reverse}
 use Rattle.board.specs.declared.Board.{Board}
 use Rattle.board.specs.Journal.{blank, noEntry}
 use Rattle.board.specs.Edits.{rowsOf, entriesOf, emptyOf, soundOf}
 use Rattle.history.specs.declared.Call.{Call}
-use Rattle.history.specs.Machine.{Machine, Answer, answer, answers, after, start}
+use Rattle.history.specs.Machine.{Machine, Answer, answers, after, start}
 use Rattle.history.specs.Calls.{edit, edits, final}
 use Rattle.history.specs.States.{stateOf, Valid}
 use Rattle.history.specs.Steps.{step, some, valid-sound, length-earlier}

@@ -2,7 +2,7 @@
 use mathlib.Core.Path.{_≡_, refl, sym, ap, _∙_, subst}
 use Prim.Native.Nat.{ℕ, zero, suc, _+_, _-_, _≤_, _<_}
 use native.Mathlib.Omega.{arith}
-use mathlib.Core.Bool.{Bool, true, false, cond, _&&_, _||_}
+use mathlib.Core.Bool.{Bool, true, false, cond, _&&_}
 use mathlib.Core.List.{List, [], _∷_, _++_, reverse, reverse-append, reverse-cons}
 use lib.ListN.{length, take, drop, getD, set, length-append, length-drop, length-set, length-reverse}
 use lib.Seq.{take-all, take-at, drop-at, length-take-le, take-suc, split-at, set-split, set-set, set-getD, getD-take}
@@ -10,7 +10,7 @@ use lib.IntN.{ℤ}
 use lib.Dec.{eqb, leb, ltb}
 use borrow.Author.Tests.{lt-ltb, le-leb, leb-true, leb-false, ltb-true, ltb-false, eqb-true, eqb-false}
 use Rattle.lists.specs.Choice.{and-yes, or-no}
-use Rattle.lists.specs.Stores.{front, take-front, length-front}
+use Rattle.lists.specs.Stores.{take-front, length-front}
 use Rattle.lists.specs.Moves.{without, inserted, length-without}
 use Rattle.board.specs.declared.Row.{Row}
 use Rattle.board.specs.declared.Entry.{Entry}
@@ -21,7 +21,7 @@ use Rattle.board.specs.Edits.{rowsOf, entriesOf, newestOf, withRows, withEntrie
 use Rattle.board.specs.Laws.{numbered-append, numbered-take, numbered-drop, numbered-mid}
 use Rattle.history.specs.declared.Call.{Call}
 use Rattle.history.specs.declared.Call.the-variants.{Add, Withdraw, Remark, Undo}
-use Rattle.history.specs.Machine.{Machine, Answer, gives, changes, goesBack, answer}
+use Rattle.history.specs.Machine.{gives, changes, goesBack, answer}
 use Rattle.history.specs.Calls.{edit}
 use Rattle.history.specs.States.{earlierLists, stateOf, AllUndoable, Valid}
 

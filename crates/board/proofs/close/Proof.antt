@@ -1,13 +1,12 @@
+-- `board::close` meets its contract. Assumes nothing.
 use Prim.Native.Nat.{ℕ, suc, _≤_, _<_, _-_}
-use mathlib.Core.Path.{_≡_, ap, _∙_, subst, sym}
+use mathlib.Core.Path.{_≡_, ap, _∙_}
 use native.Mathlib.Omega.{arith}
 use lib.ListN.{length}
 use borrow.Author.Needs.{needs}
-use Rattle.lists.specs.Moves.{closing, closing-start, closing-step, opening, opened, opening-start, opening-step, opened-of}
+use Rattle.lists.specs.Moves.{closing, closing-start, closing-step}
 use Rattle.board.proofs.close.Statement.{statement}
 use Rattle.board.proofs.close.Tie as tie
-use Rattle.board.proofs.close.Reads as reads
-use Rattle.board.proofs.close.Lts as lts
 
 abbrev Inv-loop : tie.InvT-loop
 Inv-loop k last rows₀ i₀ rows i = (k ≤ i) × (i ≤ last) × (length rows₀ ≡ 1024) × (rows ≡ closing rows₀ k i)

@@ -1,64 +1,49 @@
-use Prim.Native.Nat.{ℕ, zero, suc, _≤_, _<_, _-_, _+_}
-use mathlib.Core.Path.{_≡_, ap, _∙_, sym, refl}
-use mathlib.Core.Bool.{Bool, true, false, cond, not, _&&_, _||_}
-use mathlib.Core.List.{List, [], _∷_, _++_}
-use native.Mathlib.Omega.{arith}
-use borrow.Author.Tests.{lt-ltb, le-ltb, le-leb, lt-leb, eq-eqb, ne-eqb, not-true, not-false}
-use lib.ListN.{length, take, drop, getD, set}
-use Rattle.board.specs.Edits.{soundOf, rowsOf, newestOf, entriesOf, withEntries, addOf, withdrawOf, remarkOf, undoOf}
-use Rattle.board.specs.Journal.{allNumbered, pushed, blank}
+-- `board::Board::add` meets its contract. Assumes nothing.
+use Prim.Native.Nat.{_-_}
+use mathlib.Core.Path.{_≡_, _∙_, sym}
+use mathlib.Core.Bool.{true, false}
+use borrow.Author.Tests.{le-leb, lt-leb, eq-eqb, ne-eqb, not-true, not-false}
+use lib.ListN.{length}
+use Rattle.board.specs.Edits.{soundOf, addOf}
 use Rattle.lists.specs.Stores.{length-mapped}
-use Rattle.board.specs.Laws.{sound-count, sound-kept}
-use Rattle.board.proofs.Edits.{done, add-board, withdraw-board, remark-board}
+use Rattle.board.specs.Laws.{sound-kept}
+use Rattle.board.proofs.Edits.{done, add-board}
 use borrow.Author.Needs.{needs}
 use Rattle.board.proofs.Board.add.Statement.{statement}
 use Rattle.board.proofs.Board.add.Tie as tie
-use Rattle.board.proofs.Board.add.Reads as reads
-use Rattle.board.proofs.Board.add.Lts as lts
-use Rattle.board.proofs.Board.keep.Reads as keep-reads
-use Rattle.board.proofs.Board.sound.Reads as sound-reads
 
 yes : (c : tie.Else1) → soundOf (c .before .before .args .self) ≡ true
 yes c = sym (c .before .sound .ensures) ∙ not-false (c .before .sound .result) (c .if1 .left)
 
--- src/lib.rt:176:13
 sound-requires : tie.Need-sound-requires
 sound-requires c κs = search needs
 
--- src/lib.rt:177:13
 returns : tie.Need-returns
 unfolding addOf
 returns c =
     let n : soundOf (c .before .before .args .self) ≡ false = sym (c .before .sound .ensures) ∙ not-true (c .before .sound .result) (c .if1 .taken) in
     simp n
 
--- src/lib.rt:180:13
 returns-2 : tie.Need-returns-2
 unfolding addOf
 returns-2 c = simp (yes (c .before .before), eq-eqb _ _ (c .if2 .taken))
 
--- src/lib.rt:184:13
 returns-3 : tie.Need-returns-3
 unfolding addOf
 returns-3 c = simp (yes (c .before .before .before), ne-eqb _ _ (c .before .if2 .left), le-leb _ _ (c .if3 .taken))
 
--- src/lib.rt:186:24
 keep-requires : tie.Need-keep-requires
 keep-requires c κs = sound-kept _ (yes (c .before .before .before))
 
--- src/lib.rt:187:9
 mul-row : tie.Need-mul-row
 mul-row c = search needs
 
--- src/lib.rt:187:9
 element-set-from-row : tie.Need-element-set-from-row
 element-set-from-row c = search needs
 
--- src/lib.rt:188:22
 add-next : tie.Need-add-next
 add-next c = search needs
 
--- src/lib.rt:173:5
 returns-4 : tie.Need-returns-4
 unfolding addOf
 returns-4 c =

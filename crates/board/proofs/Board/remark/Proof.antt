@@ -1,73 +1,57 @@
+-- `board::Board::remark` meets its contract. Assumes nothing.
 use mir.Facts.{toZ-ofZ}
-use Prim.Native.Nat.{ℕ, zero, suc, _≤_, _<_, _-_, _+_}
-use mathlib.Core.Path.{_≡_, ap, _∙_, sym, refl}
-use mathlib.Core.Bool.{Bool, true, false, cond, not, _&&_, _||_}
-use mathlib.Core.List.{List, [], _∷_, _++_}
+use Prim.Native.Nat.{_-_}
+use mathlib.Core.Path.{_≡_, _∙_, sym}
+use mathlib.Core.Bool.{true, false}
 use native.Mathlib.Omega.{arith}
-use borrow.Author.Tests.{lt-ltb, le-ltb, le-leb, lt-leb, eq-eqb, ne-eqb, not-true, not-false}
-use lib.ListN.{length, take, drop, getD, set}
-use Rattle.board.specs.Edits.{soundOf, rowsOf, newestOf, entriesOf, withEntries, addOf, withdrawOf, remarkOf, undoOf}
-use Rattle.board.specs.Journal.{allNumbered, pushed, blank}
+use borrow.Author.Tests.{lt-ltb, le-ltb, eq-eqb, ne-eqb, not-true, not-false}
+use lib.ListN.{length}
+use Rattle.board.specs.Edits.{soundOf, remarkOf}
 use Rattle.lists.specs.Stores.{length-mapped}
 use Rattle.board.specs.Laws.{sound-count, sound-kept}
-use Rattle.board.proofs.Edits.{done, add-board, withdraw-board, remark-board, undo-some, undo-add, undo-place, undo-room, undo-withdraw, undo-row, undo-remark}
+use Rattle.board.proofs.Edits.{done, remark-board}
 use borrow.Author.Needs.{needs}
 use Rattle.board.proofs.Board.remark.Statement.{statement}
 use Rattle.board.proofs.Board.remark.Tie as tie
-use Rattle.board.proofs.Board.remark.Reads as reads
-use Rattle.board.proofs.Board.remark.Lts as lts
-use Rattle.board.proofs.Board.keep.Reads as keep-reads
-use Rattle.board.proofs.Board.sound.Reads as sound-reads
 
 yes : (c : tie.Else1) → soundOf (c .before .before .args .t1) ≡ true
 yes c = sym (c .before .sound .ensures) ∙ not-false (c .before .sound .result) (c .if1 .left)
 
--- src/lib.rt:219:13
 sound-requires : tie.Need-sound-requires
 sound-requires c κs = search needs
 
--- src/lib.rt:220:13
 returns : tie.Need-returns
 unfolding remarkOf
 returns c =
     let n : soundOf (c .before .before .args .t1) ≡ false = sym (c .before .sound .ensures) ∙ not-true (c .before .sound .result) (c .if1 .taken) in
     simp n
 
--- src/lib.rt:223:13
 returns-2 : tie.Need-returns-2
 unfolding remarkOf
 returns-2 c = simp (yes (c .before), eq-eqb _ _ (c .if2 .taken))
 
--- src/lib.rt:227:13
 returns-3 : tie.Need-returns-3
 unfolding remarkOf
 returns-3 c = simp (yes (c .before .before), ne-eqb _ _ (c .before .if2 .left), lt-ltb _ _ (c .if3 .taken))
 
--- src/lib.rt:229:18
 sub-at : tie.Need-sub-at
 sub-at c = search needs
 
--- src/lib.rt:230:19
 mul-row : tie.Need-mul-row
 mul-row c = record { fits = omega (arith, sound-count _ (yes (c .before .before))) }
 
--- src/lib.rt:230:19
 element-copy-out-row : tie.Need-element-copy-out-row
 element-copy-out-row c = omega (arith, sound-count _ (yes (c .before .before)))
 
--- src/lib.rt:231:24
 keep-requires : tie.Need-keep-requires
 keep-requires c κs = sound-kept _ (yes (c .before .before .before))
 
--- src/lib.rt:232:9
 mul-t15 : tie.Need-mul-t15
 mul-t15 c = record { fits = omega (arith, sound-count _ (yes (c .before .before .before .before))) }
 
--- src/lib.rt:232:9
 element-set-from-next : tie.Need-element-set-from-next
 element-set-from-next c = omega (arith, sound-count _ (yes (c .before .before .before .before)))
 
--- src/lib.rt:216:5
 returns-4 : tie.Need-returns-4
 unfolding remarkOf
 returns-4 c =

@@ -1,13 +1,13 @@
+-- `board::Board::sound` meets its contract. Assumes nothing.
 use Rattle.lists.specs.Stores.{length-mapped}
 use Rattle.board.specs.Journal.{undoable}
 use Rattle.board.specs.Tests.{canUndo}
-use Prim.Native.Nat.{ℕ, zero, suc, _≤_, _<_, _-_, _+_}
-use mathlib.Core.Path.{_≡_, ap, _∙_, sym, refl}
-use mathlib.Core.Bool.{Bool, true, false, cond, not, _&&_, _||_}
-use mathlib.Core.List.{List, [], _∷_, _++_}
+use Prim.Native.Nat.{ℕ, _≤_, _-_}
+use mathlib.Core.Path.{_≡_, ap, _∙_, sym}
+use mathlib.Core.Bool.{true, false}
 use native.Mathlib.Omega.{arith}
-use borrow.Author.Tests.{lt-ltb, le-ltb, le-leb, lt-leb, eq-eqb, ne-eqb, not-true, not-false}
-use lib.ListN.{length, take, drop, getD, set}
+use borrow.Author.Tests.{le-leb, lt-leb, eq-eqb, ne-eqb, not-true, not-false}
+use lib.ListN.{length}
 use lib.Seq.{length-take-le}
 use Rattle.board.specs.Edits.{soundOf, rowsOf, newestOf}
 use Rattle.board.specs.Journal.{allNumbered}
@@ -15,26 +15,18 @@ use Rattle.board.proofs.Sound.{undo-test}
 use borrow.Author.Needs.{needs}
 use Rattle.board.proofs.Board.sound.Statement.{statement}
 use Rattle.board.proofs.Board.sound.Tie as tie
-use Rattle.board.proofs.Board.sound.Reads as reads
-use Rattle.board.proofs.Board.sound.Lts as lts
-use Rattle.board.proofs.can_undo.Reads as can-undo-reads
-use Rattle.board.proofs.numbered.Reads as numbered-reads
 
--- src/lib.rt:137:13
 returns : tie.Need-returns
 unfolding soundOf
 returns c = simp (lt-leb _ _ (c .if1 .taken))
 
--- src/lib.rt:140:13
 returns-2 : tie.Need-returns-2
 unfolding soundOf
 returns-2 c = simp (le-leb _ _ (c .before .if1 .left), lt-leb _ _ (c .if2 .taken))
 
--- src/lib.rt:143:13
 numbered-requires : tie.Need-numbered-requires
 numbered-requires c κs = search needs
 
--- src/lib.rt:144:13
 returns-3 : tie.Need-returns-3
 unfolding soundOf
 returns-3 c =
@@ -42,7 +34,6 @@ returns-3 c =
     let n : allNumbered (rowsOf b) ≡ false = sym (c .before .numbered .ensures) ∙ not-true (c .before .numbered .result) (c .if3 .taken) in
     simp (le-leb (b .count) 1024 (c .before .before .before .before .if1 .left), le-leb (b .kept) 256 (c .before .before .before .if2 .left), n)
 
--- src/lib.rt:147:13
 returns-4 : tie.Need-returns-4
 unfolding soundOf
 returns-4 c =
@@ -50,23 +41,18 @@ returns-4 c =
     let n : allNumbered (rowsOf b) ≡ true = sym (c .before .before .numbered .ensures) ∙ not-false (c .before .before .numbered .result) (c .before .if3 .left) in
     simp (le-leb (b .count) 1024 (c .before .before .before .before .before .if1 .left), le-leb (b .kept) 256 (c .before .before .before .before .if2 .left), n, eq-eqb (b .kept) 0 (c .if4 .taken))
 
--- src/lib.rt:149:20
 sub-last : tie.Need-sub-last
 sub-last c = search needs
 
--- src/lib.rt:150:17
 mul-e : tie.Need-mul-e
 mul-e c = search needs
 
--- src/lib.rt:150:17
 element-copy-out-e : tie.Need-element-copy-out-e
 element-copy-out-e c = search needs
 
--- src/lib.rt:151:9
 can-undo-requires : tie.Need-can-undo-requires
 can-undo-requires c κs = search needs
 
--- src/lib.rt:131:5
 returns-5 : tie.Need-returns-5
 unfolding soundOf
 returns-5 c =

@@ -1,55 +1,43 @@
-use Prim.Native.Nat.{ℕ, zero, suc, _≤_, _<_, _-_, _+_}
-use mathlib.Core.Path.{_≡_, ap, _∙_, sym, refl}
-use mathlib.Core.Bool.{Bool, true, false, cond, not, _&&_, _||_}
-use mathlib.Core.List.{List, [], _∷_, _++_}
+-- `board::Board::undo` meets its contract. Assumes nothing.
+use Prim.Native.Nat.{_-_}
+use mathlib.Core.Path.{_≡_, _∙_, sym}
+use mathlib.Core.Bool.{true, false}
 use native.Mathlib.Omega.{arith}
-use borrow.Author.Tests.{lt-ltb, le-ltb, le-leb, lt-leb, eq-eqb, ne-eqb, not-true, not-false}
-use lib.ListN.{length, take, drop, getD, set}
-use Rattle.board.specs.Edits.{soundOf, rowsOf, newestOf, entriesOf, withEntries, addOf, withdrawOf, remarkOf, undoOf}
-use Rattle.board.specs.Journal.{allNumbered, pushed, blank}
+use borrow.Author.Tests.{eq-eqb, ne-eqb, not-true, not-false}
+use lib.ListN.{length}
+use Rattle.board.specs.Edits.{soundOf, undoOf}
 use Rattle.lists.specs.Stores.{length-mapped}
 use Rattle.board.specs.Laws.{sound-count, sound-kept}
-use Rattle.board.proofs.Edits.{done, add-board, withdraw-board, remark-board, undo-some, undo-add, undo-place, undo-room, undo-withdraw, undo-row, undo-remark}
+use Rattle.board.proofs.Edits.{done, undo-some, undo-add, undo-place, undo-room, undo-withdraw, undo-row, undo-remark}
 use borrow.Author.Needs.{needs}
 use Rattle.board.proofs.Board.undo.Statement.{statement}
 use Rattle.board.proofs.Board.undo.Tie as tie
-use Rattle.board.proofs.Board.undo.Reads as reads
-use Rattle.board.proofs.Board.undo.Lts as lts
-use Rattle.board.proofs.Board.sound.Reads as sound-reads
-use Rattle.board.proofs.open.Reads as open-reads
 
 yes : (c : tie.Else1) → soundOf (c .before .before .args .t1) ≡ true
 yes c = sym (c .before .sound .ensures) ∙ not-false (c .before .sound .result) (c .if1 .left)
 
--- src/lib.rt:239:13
 sound-requires : tie.Need-sound-requires
 sound-requires c κs = search needs
 
--- src/lib.rt:240:13
 returns : tie.Need-returns
 unfolding undoOf
 returns c =
     let n : soundOf (c .before .before .args .t1) ≡ false = sym (c .before .sound .ensures) ∙ not-true (c .before .sound .result) (c .if1 .taken) in
     simp n
 
--- src/lib.rt:244:13
 returns-2 : tie.Need-returns-2
 unfolding undoOf
 returns-2 c = simp (yes (c .before), eq-eqb _ _ (c .if2 .taken))
 
--- src/lib.rt:246:20
 sub-last : tie.Need-sub-last
 sub-last c = search needs
 
--- src/lib.rt:247:17
 mul-e : tie.Need-mul-e
 mul-e c = record { fits = omega (arith, sound-kept _ (yes (c .before))) }
 
--- src/lib.rt:247:17
 element-copy-out-e : tie.Need-element-copy-out-e
 element-copy-out-e c = omega (arith, sound-kept _ (yes (c .before)), c .if2 .left)
 
--- src/lib.rt:255:26
 sub-next : tie.Need-sub-next
 sub-next c =
     let e2 = c .before .before .before in
@@ -59,7 +47,6 @@ sub-next c =
     let l : length (b .rows) ≡ 1024 = search (needs, length-mapped) in
     undo-some b y l z (c .if3 .taken)
 
--- src/lib.rt:256:13
 returns-3 : tie.Need-returns-3
 unfolding undoOf
 returns-3 c =
@@ -70,7 +57,6 @@ returns-3 c =
     let l : length (b .rows) ≡ 1024 = search (needs, length-mapped) in
     simp (y, z) (done (undo-add b y l z (c .if3 .taken)))
 
--- src/lib.rt:260:17
 open-requires : tie.Need-open-requires
 open-requires c κs =
     let e2 = c .before .before .before .before .before in
@@ -80,7 +66,6 @@ open-requires c κs =
     let l : length (b .rows) ≡ 1024 = search (needs, length-mapped) in
     (undo-place b y l z (c .before .before .if3 .left) (c .before .if4 .taken), undo-room b y l z (c .before .before .if3 .left) (c .before .if4 .taken))
 
--- src/lib.rt:262:26
 add-next : tie.Need-add-next
 add-next c =
     let e2 = c .before .before .before .before .before .before in
@@ -90,7 +75,6 @@ add-next c =
     let l : length (b .rows) ≡ 1024 = search (needs, length-mapped) in
     record { fits = omega (arith, sound-count b y) }
 
--- src/lib.rt:263:13
 returns-4 : tie.Need-returns-4
 unfolding undoOf
 returns-4 c =
@@ -101,7 +85,6 @@ returns-4 c =
     let l : length (b .rows) ≡ 1024 = search (needs, length-mapped) in
     simp (y, z) (done (undo-withdraw b y l z (c .before .before .before .if3 .left) (c .before .before .if4 .taken) _ (c .«open» .ensures)))
 
--- src/lib.rt:265:9
 mul-row : tie.Need-mul-row
 mul-row c =
     let e2 = c .before .before .before .before in
@@ -111,7 +94,6 @@ mul-row c =
     let l : length (b .rows) ≡ 1024 = search (needs, length-mapped) in
     record { fits = omega (arith, sound-count b y, undo-row b y l z (c .before .if3 .left) (c .if4 .left)) }
 
--- src/lib.rt:265:9
 element-set-from-row : tie.Need-element-set-from-row
 element-set-from-row c =
     let e2 = c .before .before .before .before in
@@ -121,7 +103,6 @@ element-set-from-row c =
     let l : length (b .rows) ≡ 1024 = search (needs, length-mapped) in
     omega (arith, sound-count b y, undo-row b y l z (c .before .if3 .left) (c .if4 .left))
 
--- src/lib.rt:236:5
 returns-5 : tie.Need-returns-5
 unfolding undoOf
 returns-5 c =

@@ -1,73 +1,56 @@
-use Prim.Native.Nat.{ℕ, zero, suc, _≤_, _<_, _-_, _+_}
-use mathlib.Core.Path.{_≡_, ap, _∙_, sym, refl}
-use mathlib.Core.Bool.{Bool, true, false, cond, not, _&&_, _||_}
-use mathlib.Core.List.{List, [], _∷_, _++_}
+-- `board::Board::withdraw` meets its contract. Assumes nothing.
+use Prim.Native.Nat.{_-_}
+use mathlib.Core.Path.{_≡_, _∙_, sym}
+use mathlib.Core.Bool.{true, false}
 use native.Mathlib.Omega.{arith}
-use borrow.Author.Tests.{lt-ltb, le-ltb, le-leb, lt-leb, eq-eqb, ne-eqb, not-true, not-false}
-use lib.ListN.{length, take, drop, getD, set}
-use Rattle.board.specs.Edits.{soundOf, rowsOf, newestOf, entriesOf, withEntries, addOf, withdrawOf, remarkOf, undoOf}
-use Rattle.board.specs.Journal.{allNumbered, pushed, blank}
+use borrow.Author.Tests.{lt-ltb, le-ltb, eq-eqb, ne-eqb, not-true, not-false}
+use lib.ListN.{length}
+use Rattle.board.specs.Edits.{soundOf, withdrawOf}
 use Rattle.lists.specs.Stores.{length-mapped}
 use Rattle.board.specs.Laws.{sound-count, sound-kept}
-use Rattle.board.proofs.Edits.{done, add-board, withdraw-board, remark-board, undo-some, undo-add, undo-place, undo-room, undo-withdraw, undo-row, undo-remark}
+use Rattle.board.proofs.Edits.{done, withdraw-board}
 use borrow.Author.Needs.{needs}
 use Rattle.board.proofs.Board.withdraw.Statement.{statement}
 use Rattle.board.proofs.Board.withdraw.Tie as tie
-use Rattle.board.proofs.Board.withdraw.Reads as reads
-use Rattle.board.proofs.Board.withdraw.Lts as lts
-use Rattle.board.proofs.Board.keep.Reads as keep-reads
-use Rattle.board.proofs.Board.sound.Reads as sound-reads
-use Rattle.board.proofs.close.Reads as close-reads
 
 yes : (c : tie.Else1) → soundOf (c .before .before .args .t1) ≡ true
 yes c = sym (c .before .sound .ensures) ∙ not-false (c .before .sound .result) (c .if1 .left)
 
--- src/lib.rt:195:13
 sound-requires : tie.Need-sound-requires
 sound-requires c κs = search needs
 
--- src/lib.rt:196:13
 returns : tie.Need-returns
 unfolding withdrawOf
 returns c =
     let n : soundOf (c .before .before .args .t1) ≡ false = sym (c .before .sound .ensures) ∙ not-true (c .before .sound .result) (c .if1 .taken) in
     simp n
 
--- src/lib.rt:199:13
 returns-2 : tie.Need-returns-2
 unfolding withdrawOf
 returns-2 c = simp (yes (c .before), eq-eqb _ _ (c .if2 .taken))
 
--- src/lib.rt:203:13
 returns-3 : tie.Need-returns-3
 unfolding withdrawOf
 returns-3 c = simp (yes (c .before .before), ne-eqb _ _ (c .before .if2 .left), lt-ltb _ _ (c .if3 .taken))
 
--- src/lib.rt:205:18
 sub-at : tie.Need-sub-at
 sub-at c = search needs
 
--- src/lib.rt:206:20
 sub-last : tie.Need-sub-last
 sub-last c = search needs
 
--- src/lib.rt:207:19
 mul-row : tie.Need-mul-row
 mul-row c = record { fits = omega (arith, sound-count _ (yes (c .before .before))) }
 
--- src/lib.rt:207:19
 element-copy-out-row : tie.Need-element-copy-out-row
 element-copy-out-row c = omega (arith, sound-count _ (yes (c .before .before)))
 
--- src/lib.rt:208:13
 keep-requires : tie.Need-keep-requires
 keep-requires c κs = sound-kept _ (yes (c .before .before .before))
 
--- src/lib.rt:210:13
 close-requires : tie.Need-close-requires
 close-requires c κs = (omega (arith, sound-count _ (yes (c .before .before .before .before .before))), omega (arith, sound-count _ (yes (c .before .before .before .before .before))))
 
--- src/lib.rt:192:5
 returns-4 : tie.Need-returns-4
 unfolding withdrawOf
 returns-4 c =

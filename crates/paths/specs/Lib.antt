@@ -1,0 +1,17 @@
+pub mod Siblings
+pub mod Rows
+pub mod Paths
+pub mod Forest
+pub mod Nodes
+pub mod Bodies
+pub mod Refusals
+pub mod Emit
+pub mod Cases
+pub mod ForestLaws
+pub mod Interval
+pub mod EmitLaws
+pub mod SiblingLaws
+pub mod PathLaws
+pub mod NodeLaws
+pub mod BodyWalks
+pub mod AdoptWalks
