@@ -3,7 +3,7 @@ use mathlib.Core.Path.{_≡_, refl, sym, ap, ap₂, subst, _∙_}
 use mathlib.Core.Logic.{_≢_, _↔_}
 use mathlib.Core.Bool.{Bool, true, false, not}
 use mathlib.Core.List.{List, [], _∷_, _++_, map}
-use Prim.Native.Nat.{ℕ, _+_, _-_, _≤_, _<_}
+use Prim.Native.Nat.{ℕ, suc, _+_, _-_, _≤_, _<_}
 use native.Mathlib.Omega.{arith}
 use lib.Dec.{T-not, not-T}
 use lib.IntN.{ℤ, pos, _+ℤ_}
@@ -11,14 +11,17 @@ use lib.ListN.{length, getD, length-map, List·getD-append}
 use Rattle.board.specs.declared.Row.{Row}
 use Rattle.image.specs.declared.Body.{Body}
 use Rattle.options.specs.declared.Depth.{Depth}
+use Rattle.options.specs.Options.{levelLimit}
 use Rattle.lists.specs.Members.{_∈_, filter, filter-out, filter-in, map-append, map-agree, map-map, map-in, map-out, getD-append-right, numbers, numbers-in, numbers-out, totalsFrom}
 use Rattle.lists.specs.Stores.{getD-mapped}
 use Rattle.paths.specs.Forest.{memb}
-use Rattle.paths.specs.Rows.{row, num, RowOf}
+use Rattle.paths.specs.Emit.{emit}
+use Rattle.paths.specs.Rows.{row, num, par, RowOf}
 use Rattle.paths.specs.Paths.{last, closes, Orphan, Node}
-use Rattle.paths.specs.Nodes.{regular, orphanNodes, nodes}
-use Rattle.paths.specs.Bodies.{treeSize, parentRank, rootRank, nodeAt, minutesOf, runningTotals, body, orphanCloses, bodies, leftRows, leftOf}
+use Rattle.paths.specs.Nodes.{sorted, starts, regular, orphanRows, tops, orphans, orphanNodes, nodes}
+use Rattle.paths.specs.Bodies.{treeSize, parentRank, rootRank, nodeAt, minutesOf, runningTotals, mkBody, body, orphanCloses, bodies, leftRows, leftOf}
 use Rattle.paths.specs.ForestLaws.{memb-in, memb-out}
+use Rattle.paths.specs.EmitLaws.{emit-rows}
 use Rattle.paths.specs.NodeLaws.{nodes-are}
 
 -- totals of what two lists say alike
@@ -28,6 +31,19 @@ totals-map f g z l m e = sym (plain f z l) ∙ ap (totalsFrom (λ t. t) z) e ∙
     plain : {A : Type 0} (f : A → ℤ) (z : ℤ) (l : List A) → totalsFrom (λ t. t) z (map f l) ≡ totalsFrom f z l
     plain f z [] = refl
     plain f z (x ∷ l) = ap (λ t. z ∷ t) (plain f (z +ℤ f x) l)
+
+-- the row numbers that the walk over all rows writes are the last rows of the regular paths, those of the walk over the rows of U the last rows of the orphan paths
+pub regular-rows : (R : List Row) (start : Row → Bool) (depth : Depth) (orphan : Bool) (parent root level k : ℕ)
+    → map (λ (b : Body). b .row) (emit (mkBody R orphan) (num R) (par R) (sorted R) (levelLimit depth (length R)) [] (starts R start) parent root level k) ≡ map last (regular R start depth)
+unfolding regular
+regular-rows R start depth orphan parent root level k =
+    emit-rows (mkBody R orphan) (num R) (par R) (sorted R) (λ (b : Body). b .row) (λ x. x) (λ x size parent root level closing. refl) (levelLimit depth (length R)) [] (starts R start) parent root level k
+
+pub orphan-rows : (R : List Row) (start : Row → Bool) (depth : Depth) (orphan : Bool) (parent root level k : ℕ)
+    → map (λ (b : Body). b .row) (emit (mkBody R orphan) (num R) (par R) (orphanRows R start depth) (suc (length R)) [] (tops R start depth) parent root level k) ≡ map last (orphans R start depth)
+unfolding orphans
+orphan-rows R start depth orphan parent root level k =
+    emit-rows (mkBody R orphan) (num R) (par R) (orphanRows R start depth) (λ (b : Body). b .row) (λ x. x) (λ x size parent root level closing. refl) (suc (length R)) [] (tops R start depth) parent root level k
 
 module _ (R : List Row) (start : Row → Bool) (depth : Depth) (o : Orphan) where
   -- what a body says of its path alone, without the closing and the orphan bit

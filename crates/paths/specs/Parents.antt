@@ -1,26 +1,26 @@
--- A node's rank is where it stands; its parent is a node one row shorter, of lower rank; its first row alone is a node, of no higher rank. So a climb from parent to
--- parent ends at a root. For no depth under every orphan choice, and for any depth with no orphan nodes. Assumes nothing.
-use mathlib.Core.Path.{_≡_, refl, sym, ap, subst, _∙_}
+-- A node's rank is where it stands; its parent is a node one row shorter, of lower rank, the largest whose interval contains it; its first row alone is a node, of no
+-- higher rank. So a climb from parent to parent ends at a root. For no depth under every orphan choice, and for any depth with no orphan nodes. Assumes nothing.
+use mathlib.Core.Path.{_≡_, refl, sym, ap, ap₂, subst, _∙_}
 use mathlib.Core.Logic.{inl, inr, _≢_}
 use mathlib.Core.Bool.{Bool, true}
 use mathlib.Core.List.{List, [], _∷_}
 use Prim.Native.Nat.{ℕ, zero, suc, _+_, _-_, _≤_, _<_}
 use native.Mathlib.Omega.{arith}
 use native.Mathlib.Decide.{decLt}
-use lib.Dec.{T, eqb, eqb-refl}
+use lib.Dec.{T, eqb, eqb→eq, eqb-refl}
 use lib.IntN.{pos, negsuc}
 use lib.ListN.{length, getD}
 use Rattle.board.specs.declared.Row.{Row}
 use Rattle.options.specs.declared.Depth.{Depth}
 use Rattle.options.specs.declared.Depth.the-variants.{None, Limit}
-use Rattle.lists.specs.Members.{and-in, is-true, is-false, getD-in, place-of, Increasing}
+use Rattle.lists.specs.Members.{and-in, and-out, is-true, is-false, getD-in, place-of, Increasing}
 use Rattle.paths.specs.Rows.{num, par, RowOf}
 use Rattle.paths.specs.Paths.{init, head, Chain, Within, Orphan, ignore, error, adopt, root, Start, Regular, Unreached, TopOrphan, Node}
 use Rattle.paths.specs.Nodes.{nodes}
-use Rattle.paths.specs.Bodies.{begins, samePath, rankFrom, rankOf, nodeAt, parentRank, rootRank}
+use Rattle.paths.specs.Bodies.{begins, samePath, rankFrom, rankOf, nodeAt, treeSize, parentRank, rootRank}
 use Rattle.paths.specs.EmitLaws.{begins-both, rank-absent}
 use Rattle.paths.specs.Interval.{begins-refl}
-use Rattle.paths.specs.NodeLaws.{node-some, nodes-are, nodes-once, nodes-interval}
+use Rattle.paths.specs.NodeLaws.{node-some, nodes-are, nodes-once, nodes-interval, nodes-end, nodes-size}
 
 init-length : (p : List ℕ) → length (init p) ≡ length p - 1
 init-length [] = omega arith
@@ -41,6 +41,29 @@ init-begins (x ∷ y ∷ p) = and-in (eqb x x) (begins (init (y ∷ p)) (y ∷ p
 init-cons : (a : ℕ) (q : List ℕ) → 0 < length q → init (a ∷ q) ≡ a ∷ init q
 init-cons a [] h = absurd (omega arith)
 init-cons a (y ∷ q) h = refl
+
+-- what begins a path and is not the whole of it begins the path without its last row
+begins-init : (q p : List ℕ) → T (begins q p) → length q < length p → T (begins q (init p))
+begins-init [] p t h = tt
+begins-init (x ∷ q) [] t h = absurd t
+begins-init (x ∷ q) (y ∷ []) t h = absurd (omega arith)
+begins-init (x ∷ q) (y ∷ z ∷ p) t h =
+    let r = and-out (eqb x y) (begins q (z ∷ p)) t in and-in (eqb x y) (begins q (init (z ∷ p))) (r .0) (begins-init q (z ∷ p) (r .1) (omega arith))
+
+begins-trans : (p q r : List ℕ) → T (begins p q) → T (begins q r) → T (begins p r)
+begins-trans [] q r s t = tt
+begins-trans (x ∷ p) [] r s t = absurd s
+begins-trans (x ∷ p) (y ∷ q) [] s t = absurd t
+begins-trans (x ∷ p) (y ∷ q) (z ∷ r) s t =
+    let a = and-out (eqb x y) (begins p q) s in
+    let b = and-out (eqb y z) (begins q r) t in
+    and-in (eqb x z) (begins p r) (subst (λ w. T (eqb x w)) (eqb→eq x y (a .0) ∙ eqb→eq y z (b .0)) (eqb-refl x)) (begins-trans p q r (a .1) (b .1))
+
+begins-same : (p q : List ℕ) → T (begins p q) → length q ≤ length p → p ≡ q
+begins-same [] [] t h = refl
+begins-same [] (y ∷ q) t h = absurd (omega arith)
+begins-same (x ∷ p) [] t h = absurd t
+begins-same (x ∷ p) (y ∷ q) t h = let a = and-out (eqb x y) (begins p q) t in ap₂ _∷_ (eqb→eq x y (a .0)) (begins-same p q (a .1) (omega arith))
 
 -- a path of more than one row without its last is a path
 chain-init : (num par : ℕ → ℕ) (In First : ℕ → Type 0) (p : List ℕ) → 1 < length p → Chain num par In First p → Chain num par In First (init p)
@@ -236,3 +259,65 @@ module _ (R : List Row) (start : Row → Bool) where
           first : (p : List ℕ) → 0 < length p → T (begins (head p ∷ []) p)
           first [] h = absurd (omega arith)
           first (x ∷ p) h = and-in (eqb x x) true (eqb-refl x) tt
+
+      -- a root's root is itself
+      pub root-of-root : length (nodeAt (nodes R start depth o) r) ≡ 1 → rootRank (nodes R start depth o) (nodeAt (nodes R start depth o) r) ≡ r
+      root-of-root e = ap (rankOf W) (one (nodeAt W r) e) ∙ rank-of-node r low high
+        where
+          one : (p : List ℕ) → length p ≡ 1 → head p ∷ [] ≡ p
+          one [] d = absurd (omega arith)
+          one (x ∷ []) d = refl
+          one (x ∷ y ∷ p) d = absurd (omega arith)
+
+      -- any other's is its parent's
+      pub root-of-parent : 1 < length (nodeAt (nodes R start depth o) r)
+          → rootRank (nodes R start depth o) (nodeAt (nodes R start depth o) r)
+          ≡ rootRank (nodes R start depth o) (nodeAt (nodes R start depth o) (parentRank (nodes R start depth o) (nodeAt (nodes R start depth o) r)))
+      root-of-parent h = ap (λ x. rankOf W (x ∷ [])) (sym (init-at (nodeAt W r) 0 h)) ∙ ap (λ p. rankOf W (head p ∷ [])) (sym (parent-of-node h .2))
+
+      -- the parent's interval contains the node's
+      pub parent-ends : 1 < length (nodeAt (nodes R start depth o) r)
+          → r + treeSize (nodes R start depth o) (nodeAt (nodes R start depth o) r)
+          ≤ parentRank (nodes R start depth o) (nodeAt (nodes R start depth o) r) + treeSize (nodes R start depth o) (nodeAt (nodes R start depth o) (parentRank (nodes R start depth o) (nodeAt (nodes R start depth o) r)))
+      parent-ends h =
+          let p = nodeAt W r in
+          let q = parentRank W p in
+          let k = parent-of-node h in
+          let e = r + treeSize W p - 1 in
+          let some = nodes-size R start depth o r low high in
+          let end = nodes-end R start depth o r low high in
+          let a : 1 ≤ e = omega (arith, some) in
+          let b : e ≤ length W = omega (arith, end) in
+          let t : T (begins p (nodeAt W e)) = nodes-interval R start depth o r low high e a b .1 (omega (arith, some)) in
+          let u : T (begins (nodeAt W q) (nodeAt W e)) = subst (λ w. T (begins w (nodeAt W e))) (sym (k .2)) (begins-trans (init p) p (nodeAt W e) (init-begins p) t) in
+          let v = nodes-interval R start depth o q (k .0) (omega (arith, k .1)) e a b .0 u in
+          omega (arith, v, some)
+
+      -- no lower rank whose interval contains the node is above the parent's
+      pub parent-largest : (k : ℕ) → 1 ≤ k → k < r → r < k + treeSize (nodes R start depth o) (nodeAt (nodes R start depth o) k)
+          → (1 < length (nodeAt (nodes R start depth o) r)) × (k ≤ parentRank (nodes R start depth o) (nodeAt (nodes R start depth o) r))
+      parent-largest k a b c = (more, nodes-interval R start depth o k a (omega arith) (parentRank W p) (up .0) (omega (arith, up .1)) .0 (subst (λ w. T (begins (nodeAt W k) w)) (sym (up .2)) (begins-init (nodeAt W k) p t shorter)) .0)
+        where
+          p : List ℕ
+          p = nodeAt W r
+
+          t : T (begins (nodeAt W k) p)
+          t = nodes-interval R start depth o k a (omega arith) r low high .1 (omega arith)
+
+          there : 0 < length (nodeAt W k)
+          there = node-some R start depth o (nodeAt W k) (nodes-are R start depth o (nodeAt W k) .0 (getD-in W (k - 1) [] (omega arith)))
+
+          shorter : length (nodeAt W k) < length p
+          shorter = go (decLt (length (nodeAt W k)) (length p))
+            where
+              go : Dec (length (nodeAt W k) < length p) → length (nodeAt W k) < length p
+              go (yes l) = l
+              go (no l) =
+                  let e : nodeAt W k ≡ p = begins-same (nodeAt W k) p t (omega arith) in
+                  absurd (omega (arith, sym (rank-of-node k a (omega arith)) ∙ ap (rankOf W) e ∙ rank-of-node r low high))
+
+          more : 1 < length p
+          more = omega (arith, there, shorter)
+
+          up : (1 ≤ parentRank W p) × (parentRank W p < r) × (nodeAt W (parentRank W p) ≡ init p) × (suc (length (init p)) ≡ length p)
+          up = parent-of-node more
