@@ -1,0 +1,4 @@
+pub mod IndexCheck
+pub mod RankLaws
+pub mod CheckLaws
+pub mod NavigationLaws
