@@ -13,9 +13,9 @@ use lib.Seq.{drop-drop}
 use borrow.Author.Tests.{eq-eqb, ne-eqb, eqb-true, eqb-false}
 use Rattle.lists.specs.Members.{_∈_, append-out}
 use Rattle.lines.specs.Grammar.{Line}
-use Rattle.lines.specs.Scan.{starting, grown, signed, fresh, finishOf, stepOf, onward, scanned, lineOf, nextOf, carry}
+use Rattle.lines.specs.Scan.{blankOf, starting, grown, signed, fresh, finishOf, stepOf, onward, scanned, lineOf, nextOf, carry}
 use Rattle.lines.specs.Reading.{Byte, newline, space, minus, digit, other, byte, line-row, row-line, bad-line, Settled, finish-settled}
-use Rattle.lines.specs.Text.{lastLine, linesAfter, linesOf, Values, values, Ending, badLine, Read, Say, none, row, bad, Rest, within, broken, Taken, put, onByte, takenOf, blank, atEnd, restOf, readOf}
+use Rattle.lines.specs.Text.{lastLine, linesAfter, linesOf, Values, values, Ending, badLine, Read, Say, none, row, bad, Rest, within, broken, Taken, put, onByte, takenOf, atEnd, restOf, readOf}
 use Rattle.lines.specs.declared.Scan.{Scan}
 use Rattle.lines.specs.declared.Step.{Step}
 use Rattle.lines.specs.declared.Step.the-variants.{More, Row, Bad}
@@ -91,7 +91,7 @@ newline-step p b e = rw (eq-eqb b 10 e)
 
 -- no byte but a newline ends a line, and after one the line has a byte
 abbrev Quiet : Step → Type 0
-Quiet (More q) = blank q ≡ false
+Quiet (More q) = blankOf q ≡ false
 Quiet (Row a n o m) = ⊥
 Quiet Bad = Unit {0}
 
@@ -128,10 +128,10 @@ quiet p b x = go (byte p b)
     go (other k) = rw k tt
 
 abbrev Blank : List ℕ → Scan → Type 0
-Blank [] p = blank p ≡ true
-Blank (b ∷ l) p = blank p ≡ false
+Blank [] p = blankOf p ≡ true
+Blank (b ∷ l) p = blankOf p ≡ false
 
-blank-snoc : (l : List ℕ) (b : ℕ) (q : Scan) → blank q ≡ false → Blank (l ++ (b ∷ [])) q
+blank-snoc : (l : List ℕ) (b : ℕ) (q : Scan) → blankOf q ≡ false → Blank (l ++ (b ∷ [])) q
 blank-snoc [] b q h = h
 blank-snoc (c ∷ l) b q h = h
 

@@ -1,7 +1,7 @@
 -- What each byte does to the scan of a line, as definitions. Assumes nothing.
 use Prim.Native.Nat.{ℕ, _+_, _*_, _-_, _%_}
 use mathlib.Core.List.{List, [], _∷_}
-use mathlib.Core.Bool.{Bool, true, false, cond}
+use mathlib.Core.Bool.{Bool, true, false, cond, not, _&&_}
 use lib.Dec.{ltb, eqb}
 use lib.IntN.{ℤ, pos, negℤ}
 use Rattle.lines.specs.declared.Scan.{Scan}
@@ -18,6 +18,10 @@ starting f parent numeral order =
 -- a line has no byte yet
 abbrev pub fresh : Scan
 fresh = starting 0 0 0 0
+
+-- whether the line has no byte yet: no minus sign stands in the first field
+abbrev pub blankOf : Scan → Bool
+blankOf p = eqb (p .field) 0 && not (p .digits)
 
 -- the field has a digit, and its number so far is n
 abbrev pub grown : Scan → ℕ → Scan

@@ -7,7 +7,7 @@ use mathlib.Core.Bool.{Bool, cond, not, _&&_}
 use lib.Dec.{eqb}
 use lib.IntN.{ℤ}
 use Rattle.lines.specs.Grammar.{Line}
-use Rattle.lines.specs.Scan.{fresh, finishOf, stepOf}
+use Rattle.lines.specs.Scan.{blankOf, fresh, finishOf, stepOf}
 use Rattle.lines.specs.declared.Scan.{Scan}
 use Rattle.lines.specs.declared.Step.{Step}
 use Rattle.lines.specs.declared.Step.the-variants.{More, Row, Bad}
@@ -73,17 +73,14 @@ abbrev pub takenOf : Scan → List ℕ → Taken
 takenOf p [] = record { rows = []; rest = within p }
 takenOf p (b ∷ s) = onByte (stepOf p b) (λ q. takenOf q s)
 
--- the input ends: the line that goes on, if it has a byte, has ended too
-abbrev pub blank : Scan → Bool
-blank p = eqb (p .field) 0 && not (p .digits)
-
+-- the input ends, and with it the line that goes on, if it has a byte
 abbrev pub atEnd : Step → ℕ → Read
 atEnd (Row a n o m) k = record { rows = values a n o m ∷ []; ending = whole }
 atEnd (More q) k = record { rows = []; ending = whole }
 atEnd Bad k = record { rows = []; ending = badLine k }
 
 abbrev pub restOf : Rest → ℕ → Read
-restOf (within q) k = cond (blank q) (record { rows = []; ending = whole }) (atEnd (finishOf q) k)
+restOf (within q) k = cond (blankOf q) (record { rows = []; ending = whole }) (atEnd (finishOf q) k)
 restOf broken k = record { rows = []; ending = badLine k }
 
 -- what was taken, and then the rest; the line that is scanned first has number k

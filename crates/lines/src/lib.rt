@@ -3,7 +3,7 @@ ghost use mathlib.Core.Path.{_≡_};
 ghost use Prim.Native.Nat.{_<_, _≤_};
 ghost use lib.IntN.{pos, negℤ, natAbs};
 ghost use lib.ListN.{drop};
-ghost use Rattle.lines.specs.Scan.{fresh, finishOf, digitOf, spaceOf, minusOf, stepOf, nextOf};
+ghost use Rattle.lines.specs.Scan.{fresh, blankOf, finishOf, digitOf, spaceOf, minusOf, stepOf, nextOf};
 
 // Where a line's scan stands: the field that is being read (0 to 3), whether it has a digit yet, whether it has a minus sign,
 // its number so far, and the fields before it.
@@ -65,6 +65,16 @@ impl Scan {
             numeral: 0,
             order: 0,
         }
+    }
+
+    // Whether the line has no byte yet.
+    pub fn blank(self) -> bool
+        ensures { λ r. ⌜ r ≡ blankOf self ⌝ }
+    {
+        if self.field != 0 {
+            return false;
+        }
+        !self.digits
     }
 
     // One more digit. The number so far is tested before it grows, so it can't wrap.
