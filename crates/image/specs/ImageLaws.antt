@@ -1,7 +1,7 @@
 -- Laws of the index image: the packed word, the check word, the words of a list of bodies. Assumes nothing.
 use mathlib.Core.Path.{_≡_, refl, sym, ap, _∙_}
 use mathlib.Core.Bool.{Bool, true, false, not}
-use mathlib.Core.List.{List, [], _∷_, _++_, map, append-assoc}
+use mathlib.Core.List.{List, [], _∷_, _++_, append-assoc}
 use Prim.Native.Nat.{ℕ, zero, suc, _+_, _*_, _-_, _%_, _/_, _^_, _≤_, _<_}
 use native.Mathlib.Nat.{zero-add}
 use native.Mathlib.Omega.{arith}
@@ -65,6 +65,15 @@ pub checked-append : (c : ℕ) (xs ys : List ℕ) → checked c (xs ++ ys) ≡ c
 unfolding checked
 checked-append c [] ys = refl
 checked-append c (x ∷ xs) ys = checked-append ((c + x) % 2 ^ 32) xs ys
+
+-- one word more
+pub checked-next : (c w x : ℕ) (ws : List ℕ) → x ≡ (c + w) % 2 ^ 32 → checked x ws ≡ checked c (w ∷ ws)
+unfolding checked
+checked-next c w x ws e = ap (λ (k : ℕ). checked k ws) e
+
+pub checked-none : (c : ℕ) → c ≡ checked c []
+unfolding checked
+checked-none c = refl
 
 checked-first : (c x : ℕ) (ys : List ℕ) → checked ((c + x) % 2 ^ 32) ys ≡ checked (checked c ys) (x ∷ [])
 unfolding checked

@@ -111,12 +111,16 @@ module _ (s : List ℕ) (accepted : accepts s ≡ true) where
     where
       r : Right s b
       r = accepted-rank b (omega arith) n
+
       low : a ≤ parentAt s b
       low = parent-largest s a b (r .parent) l i
+
       up : parentAt s b < b
       up = accepted-parent b (omega arith) n
+
       end : b + sizeAt s b ≤ parentAt s b + sizeAt s (parentAt s b)
       end = ends-in-parent b (omega arith) n (omega (arith, low))
+
       here : Dec (a ≡ parentAt s b)
           → (a < parentAt s b → parentAt s b ≤ nodeCount s → parentAt s b < a + sizeAt s a → parentAt s b + sizeAt s (parentAt s b) ≤ a + sizeAt s a)
           → b + sizeAt s b ≤ a + sizeAt s a

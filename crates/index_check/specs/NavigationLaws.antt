@@ -28,9 +28,9 @@ turned : (s : List ℕ) (lo hi : ℤ) (r k : ℕ) → within lo hi (distance s r
 turned s lo hi r k =
     limits-negate lo hi (distance s r k)
     ∙ ap (within (negℤ hi) (negℤ lo))
-      (negℤ-+ℤ (pos (levelAt s k)) (negℤ (pos (levelAt s r)))
-      ∙ ap (λ (x : ℤ). negℤ (pos (levelAt s k)) +ℤ x) (negℤ-negℤ (pos (levelAt s r)))
-      ∙ +ℤ-comm (negℤ (pos (levelAt s k))) (pos (levelAt s r)))
+    (negℤ-+ℤ (pos (levelAt s k)) (negℤ (pos (levelAt s r)))
+    ∙ ap (λ (x : ℤ). negℤ (pos (levelAt s k)) +ℤ x) (negℤ-negℤ (pos (levelAt s r)))
+    ∙ +ℤ-comm (negℤ (pos (levelAt s k))) (pos (levelAt s r)))
 
 -- the widest limits that a call can be given
 abbrev pub lowest : ℤ
@@ -96,10 +96,13 @@ module _ (s : List ℕ) (accepted : accepts s ≡ true) where
     where
       i : (r ≤ k) × (k < r + sizeAt s r)
       i = contains-out s r k e
+
       low : 1 ≤ k
       low = omega (arith, i .0)
+
       p : parentAt s k < k
       p = accepted-parent s accepted k low b
+
       here : Dec (r ≡ k) → (parentAt s k ≤ f → 1 ≤ r → parentAt s k ≤ nodeCount s → contains s r (parentAt s k) ≡ true → r ∈ chain s (parentAt s k))
           → (r ≡ k) ⊎ (r ∈ chain s (parentAt s k))
       here (yes q) above = inl q
@@ -121,8 +124,8 @@ module _ (s : List ℕ) (accepted : accepts s ≡ true) where
           ⊎-elim
           (λ q. (omega (arith, q), λ i e. ap (λ (x : ℕ). contains s x i) q ∙ e))
           (λ n.
-            let up = above (omega (arith, p)) (omega (arith, p)) n in
-            (up .0, λ i e. up .1 i (nested-in-parent s accepted k low b (some n) i e)))
+          let up = above (omega (arith, p)) (omega (arith, p)) n in
+          (up .0, λ i e. up .1 i (nested-in-parent s accepted k low b (some n) i e)))
           (subst (λ (l : List ℕ). r ∈ l) (next k low b) m)
         where
           some : r ∈ chain s (parentAt s k) → 0 < parentAt s k
@@ -134,9 +137,10 @@ module _ (s : List ℕ) (accepted : accepts s ≡ true) where
 
   -- k lies in r's interval exactly when r is on k's chain
   pub contains-is-chain : (r k : ℕ) → 1 ≤ r → 1 ≤ k → k ≤ nodeCount s → (contains s r k ≡ true) ↔ (r ∈ chain s k)
-  contains-is-chain r k h low b =
-      (chain-of-contains k r k (omega arith) h b,
-       λ m. chain-out k r k (omega arith) b m .1 k (contains-yes s k k (omega arith) (omega (arith, accepted-size s accepted k low b))))
+  contains-is-chain r k h low b = (
+    chain-of-contains k r k (omega arith) h b,
+    λ m. chain-out k r k (omega arith) b m .1 k (contains-yes s k k (omega arith) (omega (arith, accepted-size s accepted k low b))),
+  )
 
   -- ---- ancestors and descendants
 
@@ -144,30 +148,32 @@ module _ (s : List ℕ) (accepted : accepts s ≡ true) where
   pub listed-both-ways : (r k : ℕ) → 1 ≤ r → 1 ≤ k → k ≤ nodeCount s → (lo hi : ℤ)
       → (k ∈ descendantList s r lo hi) ↔ (r ∈ ancestorList s k (negℤ hi) (negℤ lo))
   unfolding descendantList
-  listed-both-ways r k h low b lo hi =
-      ((λ m.
-         let f = filter-out (λ i. within lo hi (distance s r i)) (numbers r (sizeAt s r)) k m in
-         let n = numbers-out r (sizeAt s r) k (f .0) in
-         filter-in (λ i. within (negℤ hi) (negℤ lo) (distance s k i)) (chain s k) r
-         (contains-is-chain r k h low b .0 (contains-yes s r k (n .0) (n .1)))
-         (subst T (turned s lo hi r k) (f .1))),
-       (λ m.
-         let f = filter-out (λ i. within (negℤ hi) (negℤ lo) (distance s k i)) (chain s k) r m in
-         let n = contains-out s r k (contains-is-chain r k h low b .1 (f .0)) in
-         filter-in (λ i. within lo hi (distance s r i)) (numbers r (sizeAt s r)) k
-         (numbers-in r (sizeAt s r) k (n .0) (n .1))
-         (subst T (sym (turned s lo hi r k)) (f .1))))
+  listed-both-ways r k h low b lo hi = (
+    (λ m.
+        let f = filter-out (λ i. within lo hi (distance s r i)) (numbers r (sizeAt s r)) k m in
+        let n = numbers-out r (sizeAt s r) k (f .0) in
+        filter-in (λ i. within (negℤ hi) (negℤ lo) (distance s k i)) (chain s k) r
+        (contains-is-chain r k h low b .0 (contains-yes s r k (n .0) (n .1)))
+        (subst T (turned s lo hi r k) (f .1))),
+    (λ m.
+        let f = filter-out (λ i. within (negℤ hi) (negℤ lo) (distance s k i)) (chain s k) r m in
+        let n = contains-out s r k (contains-is-chain r k h low b .1 (f .0)) in
+        filter-in (λ i. within lo hi (distance s r i)) (numbers r (sizeAt s r)) k
+        (numbers-in r (sizeAt s r) k (n .0) (n .1))
+        (subst T (sym (turned s lo hi r k)) (f .1))),
+  )
 
   -- k is listed under r exactly when r is listed above k
   pub under-is-above : (r k : ℕ) → 1 ≤ r → 1 ≤ k → k ≤ nodeCount s
       → (k ∈ descendantList s r lowest highest) ↔ (r ∈ ancestorList s k lowest highest)
-  under-is-above r k h low b =
-      ((λ m.
-         let n = numbers-out r (sizeAt s r) k (subst (λ (l : List ℕ). k ∈ l) (descendants-all s r) m) in
-         subst (λ (l : List ℕ). r ∈ l) (sym (ancestors-all s k)) (contains-is-chain r k h low b .0 (contains-yes s r k (n .0) (n .1)))),
-       (λ m.
-         let n = contains-out s r k (contains-is-chain r k h low b .1 (subst (λ (l : List ℕ). r ∈ l) (ancestors-all s k) m)) in
-         subst (λ (l : List ℕ). k ∈ l) (sym (descendants-all s r)) (numbers-in r (sizeAt s r) k (n .0) (n .1))))
+  under-is-above r k h low b = (
+    (λ m.
+        let n = numbers-out r (sizeAt s r) k (subst (λ (l : List ℕ). k ∈ l) (descendants-all s r) m) in
+        subst (λ (l : List ℕ). r ∈ l) (sym (ancestors-all s k)) (contains-is-chain r k h low b .0 (contains-yes s r k (n .0) (n .1)))),
+    (λ m.
+        let n = contains-out s r k (contains-is-chain r k h low b .1 (subst (λ (l : List ℕ). r ∈ l) (ancestors-all s k) m)) in
+        subst (λ (l : List ℕ). k ∈ l) (sym (descendants-all s r)) (numbers-in r (sizeAt s r) k (n .0) (n .1))),
+  )
 
   -- ---- levels
 
@@ -177,8 +183,10 @@ module _ (s : List ℕ) (accepted : accepts s ≡ true) where
     where
       p : parentAt s k < k
       p = accepted-parent s accepted k h b
+
       more : length (chain s k) ≡ suc (length (chain s (parentAt s k)))
       more = ap length (next k h b)
+
       here : Dec (parentAt s k ≡ 0) → (parentAt s k ≤ f → 1 ≤ parentAt s k → parentAt s k ≤ nodeCount s → levelAt s (parentAt s k) ≡ length (chain s (parentAt s k)))
           → levelAt s k ≡ length (chain s k)
       here (yes z) above =

@@ -1,25 +1,21 @@
 -- The laws of the links, of a board's rows: from the first child along the next siblings one meets the children of the definitions; classes, owners and start flags. Assumes nothing.
 use mathlib.Core.Path.{_≡_, refl, sym, ap, ap₂, subst, subst₂, _∙_}
 use mathlib.Core.Logic.{_⊎_, inl, inr, _≢_, _↔_}
-use mathlib.Core.Bool.{Bool, true, false, cond, not, _&&_, _||_}
+use mathlib.Core.Bool.{Bool, true, false, cond, _&&_, _||_}
 use mathlib.Core.List.{List, [], _∷_, map}
-use mathlib.Core.Option.{Option}
 use Prim.Native.Nat.{ℕ, zero, suc, _+_, _-_, _≤_, _<_}
 use native.Mathlib.Omega.{arith}
 use native.Mathlib.Decide.{ℕ-discrete, decLt}
 use borrow.Author.Tests.{eq-eqb, ne-eqb}
-use lib.Dec.{eqb, leb}
-use lib.IntN.{ℤ}
-use lib.ListN.{length, getD, take, drop, length-map}
-use lib.Seq.{getD-take, getD-drop}
+use lib.Dec.{eqb}
+use lib.ListN.{length, getD, length-map}
 use Rattle.board.specs.declared.Row.{Row}
-use Rattle.lists.specs.Members.{_∈_, keep, filter, filter-agree, map-map, numbers, numbers-out, sort-out}
+use Rattle.lists.specs.Members.{_∈_, keep, filter, filter-agree, numbers, numbers-out, sort-out}
 use Rattle.lists.specs.Stores.{getD-mapped}
 use Rattle.paths.specs.Forest.{memb, children}
-use Rattle.paths.specs.Rows.{row, noRow, num, par, siblings, parentZero, numeralIn}
-use Rattle.paths.specs.Paths.{last}
-use Rattle.paths.specs.Nodes.{sorted, starts, regular, orphanRows}
-use Rattle.links.specs.Links.{firstFrom, of, rowsBy, Numbered, nexts, firsts, places, bit, Linked, end, more, Ordered, Masked}
+use Rattle.paths.specs.Rows.{row, noRow, num, par, siblings}
+use Rattle.paths.specs.Nodes.{sorted}
+use Rattle.links.specs.Links.{firstFrom, of, rowsBy, Numbered, nexts, firsts, places, Linked, end, more, Ordered, Masked}
 use Rattle.links.specs.Keys.{first-out, getD-nexts, getD-firsts, length-firsts, length-nexts}
 use Rattle.links.specs.Rows.{rows-numbered, rows-sorted, length-rows, of-row}
 use Rattle.links.specs.Chains.{chain, places-from, class-in, class-same}
@@ -29,7 +25,6 @@ pub next-rises : (F : List ℕ) (p : ℕ) → p < length F → p < getD (nexts F
 next-rises F p h = omega (arith, getD-nexts F p h, first-out F (getD F p 0) (p + 1) (omega arith) .0)
 
 -- ---- from the functions' results to the rows in order
-
 
 pub length-sorted : (R : List Row) → length R ≤ 1024 → length (sorted R) ≡ length R
 length-sorted R few =
@@ -106,9 +101,9 @@ module _ (R : List Row) (rows parent numeral : List ℕ) (o : Ordered R rows par
   unfolding places
   rows-of-places x =
       ap (map (λ q. getD rows q 0))
-        (filter-agree (λ q. eqb (getD parent q 0) x) (λ q. eqb (par R (getD rows q 0)) x) (numbers 0 (length parent))
-          (λ q m. ap (λ z. eqb z x) (parent-at q (omega (arith, numbers-out 0 (length parent) q m, parent-long))))
-        ∙ ap (λ n. filter (λ q. eqb (par R (getD rows q 0)) x) (numbers 0 n)) parent-long)
+      (filter-agree (λ q. eqb (getD parent q 0) x) (λ q. eqb (par R (getD rows q 0)) x) (numbers 0 (length parent))
+      (λ q m. ap (λ z. eqb z x) (parent-at q (omega (arith, numbers-out 0 (length parent) q m, parent-long))))
+      ∙ ap (λ n. filter (λ q. eqb (par R (getD rows q 0)) x) (numbers 0 n)) parent-long)
       ∙ places-from (λ y. eqb (par R y) x) rows rows 0 (λ k h. ap (λ n. getD rows n 0) (omega arith))
       ∙ ap (filter (λ y. eqb (par R y) x)) (o .rows-are)
 
@@ -118,9 +113,9 @@ module _ (R : List Row) (rows parent numeral : List ℕ) (o : Ordered R rows par
   unfolding places
   rows-of-masked inside masked x m n =
       ap (map (λ q. getD rows q 0))
-        (filter-agree (λ q. eqb (getD masked q 0) x) (λ q. inside (getD rows q 0) && eqb (par R (getD rows q 0)) x) (numbers 0 (length masked))
-          (λ q k. ap (λ z. eqb z x) (m .1 q (omega (arith, numbers-out 0 (length masked) q k, m .0))) ∙ masked-test (inside (getD rows q 0)) (par R (getD rows q 0)) x n)
-        ∙ ap (λ k. filter (λ q. inside (getD rows q 0) && eqb (par R (getD rows q 0)) x) (numbers 0 k)) (m .0))
+      (filter-agree (λ q. eqb (getD masked q 0) x) (λ q. inside (getD rows q 0) && eqb (par R (getD rows q 0)) x) (numbers 0 (length masked))
+      (λ q k. ap (λ z. eqb z x) (m .1 q (omega (arith, numbers-out 0 (length masked) q k, m .0))) ∙ masked-test (inside (getD rows q 0)) (par R (getD rows q 0)) x n)
+      ∙ ap (λ k. filter (λ q. inside (getD rows q 0) && eqb (par R (getD rows q 0)) x) (numbers 0 k)) (m .0))
       ∙ places-from (λ y. inside y && eqb (par R y) x) rows rows 0 (λ k h. ap (λ i. getD rows i 0) (omega arith))
       ∙ filter-both inside (λ y. eqb (par R y) x) rows
       ∙ ap (λ l. filter (λ y. eqb (par R y) x) (filter inside l)) (o .rows-are)
@@ -145,18 +140,20 @@ module _ (R : List Row) (rows parent numeral : List ℕ) (o : Ordered R rows par
   -- THE LAW OF THE LINKS: from child[p], next leads through places whose rows are the children of p's row, in sibling order
   pub linked-children : (child next : List ℕ) → child ≡ firsts parent numeral → next ≡ nexts parent → (p : ℕ) → p < length rows
       → Linked next (length rows) (getD child p 0) (places parent (getD numeral p 0))
-        × (map (λ q. getD rows q 0) (places parent (getD numeral p 0)) ≡ children (num R) (par R) (sorted R) (num R (getD rows p 0)))
+      × (map (λ q. getD rows q 0) (places parent (getD numeral p 0)) ≡ children (num R) (par R) (sorted R) (num R (getD rows p 0)))
   linked-children child next c n p h =
       (places-linked parent child next parent-long c n p h, rows-of-places (getD numeral p 0) ∙ ap (λ x. children (num R) (par R) (sorted R) x) (numeral-at p h))
 
   -- THE LAW OF THE MASKED LINKS: with the parents masked, they are the children among the rows that are inside
-  pub masked-children : (inside : ℕ → Bool) (masked child next : List ℕ) → Masked R inside rows masked → child ≡ firsts masked numeral → next ≡ nexts masked
+  pub masked-children : (inside : ℕ → Bool) (pool masked child next : List ℕ) → pool ≡ filter inside (sorted R) → Masked R inside rows masked → child ≡ firsts masked numeral → next ≡ nexts masked
       → (p : ℕ) → p < length rows → num R (getD rows p 0) ≢ 0
       → Linked next (length rows) (getD child p 0) (places masked (getD numeral p 0))
-        × (map (λ q. getD rows q 0) (places masked (getD numeral p 0)) ≡ children (num R) (par R) (filter inside (sorted R)) (num R (getD rows p 0)))
-  masked-children inside masked child next m c n p h z =
-      (places-linked masked child next (m .0) c n p h
-      , ap (λ x. map (λ q. getD rows q 0) (places masked x)) (numeral-at p h) ∙ rows-of-masked inside masked (num R (getD rows p 0)) m z)
+      × (map (λ q. getD rows q 0) (places masked (getD numeral p 0)) ≡ children (num R) (par R) pool (num R (getD rows p 0)))
+  masked-children inside pool masked child next i m c n p h z = (
+    places-linked masked child next (m .0) c n p h,
+    ap (λ x. map (λ q. getD rows q 0) (places masked x)) (numeral-at p h) ∙ rows-of-masked inside masked (num R (getD rows p 0)) m z
+        ∙ ap (λ l. children (num R) (par R) l (num R (getD rows p 0))) (sym i),
+  )
 
   -- ---- classes of equal numerals
 
@@ -172,9 +169,10 @@ module _ (R : List Row) (rows parent numeral : List ℕ) (o : Ordered R rows par
 
     -- THE LAW OF THE CLASSES
     pub class-iff : (p q : ℕ) → p < length rows → q < length rows → (getD class p 0 ≡ getD class q 0) ↔ (num R (getD rows p 0) ≡ num R (getD rows q 0))
-    class-iff p q a b =
-        ( (λ e. sym (numeral-at p a) ∙ class-same numeral p q (omega (arith, numeral-long)) (omega (arith, numeral-long)) (sym (class-at p a) ∙ e ∙ class-at q b) ∙ numeral-at q b)
-        , (λ e. class-at p a ∙ ap (λ x. firstFrom numeral x 0) (numeral-at p a ∙ e ∙ sym (numeral-at q b)) ∙ sym (class-at q b)))
+    class-iff p q a b = (
+      (λ e. sym (numeral-at p a) ∙ class-same numeral p q (omega (arith, numeral-long)) (omega (arith, numeral-long)) (sym (class-at p a) ∙ e ∙ class-at q b) ∙ numeral-at q b),
+      (λ e. class-at p a ∙ ap (λ x. firstFrom numeral x 0) (numeral-at p a ∙ e ∙ sym (numeral-at q b)) ∙ sym (class-at q b)),
+    )
 
     -- the class of p is among the classes of the places passed exactly where its numeral is among their numerals
     pub closing-test : (p : ℕ) → p < length rows → (path : List ℕ) → ((q : ℕ) → q ∈ path → q < length rows)

@@ -66,10 +66,10 @@ pub length-keys : (F : List ℕ) → length (keysOf F) ≡ length F
 unfolding keysOf
 length-keys F = length-sort ltb (packed 0 F) ∙ length-packed 0 F
 
-mem-index : (l : List ℕ) (v : ℕ) → v ∈ l → (i : ℕ) × (i < length l) × (getD l i 0 ≡ v)
-mem-index [] v m = absurd m
-mem-index (x ∷ l) v (inl e) = (0, omega arith, sym e)
-mem-index (x ∷ l) v (inr m) = let r = mem-index l v m in (suc (r .0), omega (arith, r .1), r .2)
+pub member-at : (l : List ℕ) (v : ℕ) → v ∈ l → (i : ℕ) × (i < length l) × (getD l i 0 ≡ v)
+member-at [] v m = absurd m
+member-at (x ∷ l) v (inl e) = (0, omega arith, sym e)
+member-at (x ∷ l) v (inr m) = let r = member-at l v m in (suc (r .0), omega (arith, r .1), r .2)
 
 -- the keys are those of the places
 pub keys-out : (F : List ℕ) (r : ℕ) → r < length (keysOf F) → (k : ℕ) × (k < length F) × (getD (keysOf F) r 0 ≡ getD F k 0 * 1024 + k)
@@ -78,7 +78,7 @@ keys-out F r h = let p = packed-out 0 F (getD (keysOf F) r 0) (sort-out ltb (pac
 
 pub keys-in : (F : List ℕ) (k : ℕ) → k < length F → (i : ℕ) × (i < length (keysOf F)) × (getD (keysOf F) i 0 ≡ getD F k 0 * 1024 + k)
 unfolding keysOf
-keys-in F k h = let p = mem-index (keysOf F) (getD F k 0 * 1024 + (0 + k)) (sort-in ltb (packed 0 F) (getD F k 0 * 1024 + (0 + k)) (packed-in 0 F k h)) in (p .0, p .1, p .2 ∙ omega arith)
+keys-in F k h = let p = member-at (keysOf F) (getD F k 0 * 1024 + (0 + k)) (sort-in ltb (packed 0 F) (getD F k 0 * 1024 + (0 + k)) (packed-in 0 F k h)) in (p .0, p .1, p .2 ∙ omega arith)
 
 -- ---- the first place
 

@@ -7,6 +7,7 @@ use lib.Dec.{eqb, ltb}
 use lib.ListN.{length, getD, drop}
 use Rattle.lists.specs.Members.{filter, sort, numbers}
 use Rattle.board.specs.declared.Row.{Row}
+use Rattle.paths.specs.Forest.{memb}
 use Rattle.paths.specs.Siblings.{keyBefore}
 use Rattle.paths.specs.Rows.{num, par}
 use Rattle.paths.specs.Nodes.{sorted}
@@ -101,6 +102,10 @@ bit b = cond b 1 0
 pub data Linked (next : List ℕ) (m : ℕ) : ℕ → List ℕ → Type 0 where
   end : {p : ℕ} → m ≤ p → Linked next m p []
   more : {p : ℕ} {ps : List ℕ} → p < m → Linked next m (getD next p 0) ps → Linked next m p (p ∷ ps)
+
+-- the flag at the first place of each number of F tells whether the number is in the list
+unfoldable pub Flagged : (F list flags : List ℕ) → Type 0
+Flagged F list flags = (p : ℕ) → p < length F → getD flags (firstFrom F (getD F p 0) 0) 0 ≡ bit (memb (getD F p 0) list)
 
 -- ---- what the preparation of a board's rows R leaves
 

@@ -143,6 +143,10 @@ module _ {A : Type 0} where
   getD-in (x ∷ l) zero d h = inl refl
   getD-in (x ∷ l) (suc i) d h = inr (getD-in l i d (omega arith))
 
+  pub getD-append-right : (l m : List A) (i : ℕ) (d : A) → getD (l ++ m) (length l + i) d ≡ getD m i d
+  getD-append-right [] m i d = ap (λ (k : ℕ). getD m k d) (omega arith)
+  getD-append-right (x ∷ l) m i d = let e : length (x ∷ l) + i ≡ suc (length l + i) = omega arith in ap (λ (k : ℕ). getD (x ∷ l ++ m) k d) e ∙ getD-append-right l m i d
+
   pub filter-in : (f : A → Bool) (l : List A) (y : A) → y ∈ l → T (f y) → y ∈ filter f l
   filter-in f [] y m t = absurd m
   filter-in f (x ∷ l) y (inl e) t = subst (λ z. z ∈ keep (f x) x (filter f l)) (sym e) (keep-head (f x) x (filter f l) (subst (λ z. T (f z)) e t))

@@ -88,7 +88,8 @@ pub fn span(index: &[u32], rank: u32) -> &[u32]
     let r = rank as usize;
     let at = 8 + 6 * (r - 1);
     let size = index[at + 2] as usize;
-    let end = at + 6 * size;
+    let last = r + size - 1;
+    let end = 8 + 6 * last;
     &index[at..end]
 }
 
@@ -155,8 +156,8 @@ fn list_kept(index: &[u32], r: usize, size: usize, keep: Keep, out: &mut [u32]) 
     ensures { λ x. ⌜ x ≡ listAnswer 0 (filter (keepsAt (now (index .entry)) keep) (numbers r size)) (now (out .entry)) ⌝ }
     ensures { λ _. ⌜ now (out .exit) ≡ listOut 0 (filter (keepsAt (now (index .entry)) keep) (numbers r size)) (now (out .entry)) ⌝ }
 {
-    let len = count_kept(index, r, size, keep);
-    if out.len() < len {
+    let count = count_kept(index, r, size, keep);
+    if out.len() < count {
         return Listed {
             refusal: 16,
             len: 0,

@@ -3,7 +3,7 @@ use Rattle.image.specs.ImageLaws.{pack-word, bit-le}
 use Rattle.image.specs.Layout.{bit}
 use Prim.Native.Nat.{ℕ, _+_, _*_, _%_, _^_}
 use native.Mathlib.Omega.{arith}
-use mathlib.Core.Path.{_≡_, refl, sym, ap, _∙_}
+use mathlib.Core.Path.{ap, _∙_}
 use borrow.Author.Needs.{needs}
 use Rattle.image.proofs.pack.Statement.{statement}
 use Rattle.image.proofs.pack.Tie as tie

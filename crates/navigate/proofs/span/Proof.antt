@@ -57,6 +57,12 @@ shared-slice-read-size c = omega (arith, ok (c .before), ok (c .before) .held)
 cast-size : tie.Need-cast-size
 cast-size c = omega (arith, c .shared-slice-known2 .given (8 + 6 * (c .before .before .before .before .args .rank - 1) + 2))
 
+add-last : tie.Need-add-last
+add-last c = omega (arith, ok (c .before))
+
+sub-last : tie.Need-sub-last
+sub-last c = omega (arith, ok (c .before))
+
 mul-end : tie.Need-mul-end
 mul-end c = omega (arith, ok (c .before), ok (c .before) .held)
 
@@ -80,7 +86,7 @@ returns-2 c =
     let e = c .before .before in
     let x = e .before .before .before .args in
     let s = now (x .index) in
-    let m : bodyAt (x .rank) + 6 * sizeAt s (x .rank) - bodyAt (x .rank) ≡ 6 * sizeAt s (x .rank) = omega arith in
+    let m : 8 + 6 * (x .rank + sizeAt s (x .rank) - 1) - bodyAt (x .rank) ≡ 6 * sizeAt s (x .rank) = omega (arith, ok e) in
     simp (eq-eqb (spanRefusal s (x .rank)) 0 (none e)) (ap (λ (m : ℕ). take m (drop (bodyAt (x .rank)) s)) m)
 
 pub span-spec : {M : Type 1} → statement M
@@ -99,6 +105,8 @@ span-spec =
     mul-size
     shared-slice-read-size
     cast-size
+    add-last
+    sub-last
     mul-end
     add-end
     mul-result
