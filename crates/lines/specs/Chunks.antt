@@ -1,5 +1,4 @@
 -- A scan over a text, chunk by chunk or whole, takes what the text's lines say. Assumes nothing.
--- ---- two chunks are one
 use Prim.Native.Nat.{ℕ, _+_, _*_, _-_, _%_, _<_, _≤_}
 use native.Mathlib.Omega.{arith}
 use mathlib.Core.Path.{_≡_, refl, sym, ap, ap₂, subst, _∙_}
@@ -21,6 +20,8 @@ use Rattle.lines.specs.declared.Step.{Step}
 use Rattle.lines.specs.declared.Step.the-variants.{More, Row, Bad}
 use Rattle.lines.specs.declared.Found.{Found}
 use Rattle.lines.specs.declared.Found.the-variants as found
+
+-- ---- two chunks are one
 
 abbrev pub follow : List Values → Rest → (Scan → Taken) → Taken
 follow vs (within q) k = record { rows = vs ++ k q .rows; rest = k q .rest }

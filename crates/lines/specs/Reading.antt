@@ -1,5 +1,4 @@
 -- The scan reads a line as a row exactly where the grammar says that it is one, and then as the same four numbers. Assumes nothing.
--- ---- a well-formed line is read
 use Prim.Native.Nat.{ℕ, _+_, _*_, _-_, _%_, _≤_, _<_}
 use native.Mathlib.Omega.{arith}
 use native.Mathlib.Nat.{mod-eq-of-lt}
@@ -17,6 +16,8 @@ use Rattle.lines.specs.Grammar.{Number, Minutes, unsigned, negative, Lin
 use Rattle.lines.specs.declared.Scan.{Scan}
 use Rattle.lines.specs.declared.Step.{Step}
 use Rattle.lines.specs.declared.Step.the-variants.{More, Row, Bad}
+
+-- ---- a well-formed line is read
 
 digit-step : (p : Scan) (b : ℕ) → Digit b → stepOf p b ≡ digitOf p (b - 48)
 unfolding stepOf

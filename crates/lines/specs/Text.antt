@@ -1,6 +1,4 @@
 -- A text as lines, what its lines say in order, and what a scan over it takes, as definitions. Assumes nothing.
--- ---- the lines of a text: they end at newlines, "the last newline may be missing"
--- what stands after the last newline is a line where it has a byte
 use Prim.Native.Nat.{ℕ, _+_}
 use mathlib.Core.List.{List, [], _∷_, _++_}
 use mathlib.Core.Bool.{Bool, cond, not, _&&_}
@@ -12,6 +10,9 @@ use Rattle.lines.specs.declared.Scan.{Scan}
 use Rattle.lines.specs.declared.Step.{Step}
 use Rattle.lines.specs.declared.Step.the-variants.{More, Row, Bad}
 
+-- ---- the lines of a text: they end at newlines, "the last newline may be missing"
+
+-- what stands after the last newline is a line where it has a byte
 abbrev pub lastLine : List ℕ → List (List ℕ)
 lastLine [] = []
 lastLine (b ∷ l) = (b ∷ l) ∷ []

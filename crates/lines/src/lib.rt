@@ -1,7 +1,7 @@
 // The scan of lines `parent numeral order minutes`, byte by byte: its state is a value that goes from chunk to chunk, so a line may have any length.
 ghost use mathlib.Core.Path.{_≡_};
 ghost use Prim.Native.Nat.{_<_, _≤_};
-ghost use lib.IntN.{pos, negℤ, natAbs};
+ghost use lib.IntN.{pos, negℤ};
 ghost use lib.ListN.{drop};
 ghost use Rattle.lines.specs.Scan.{fresh, blankOf, finishOf, digitOf, spaceOf, minusOf, stepOf, nextOf};
 
@@ -37,18 +37,6 @@ fn negated(v: u64) -> i32
     ensures { λ r. ⌜ r ≡ negℤ (pos v) ⌝ }
 {
     (0 - (v as i64)) as i32
-}
-
-// The number n without its sign, as it is printed after a minus sign.
-pub fn magnitude(n: i64) -> u64
-    ensures { λ r. ⌜ r ≡ natAbs n ⌝ }
-{
-    if n < 0 {
-        let less = -1 - n;
-        less as u64 + 1
-    } else {
-        n as u64
-    }
 }
 
 impl Scan {

@@ -1,5 +1,4 @@
 -- What a chunk of the input does to the load of a board, as definitions. Assumes nothing.
--- the first line of the input is line 1
 use Prim.Native.Nat.{ℕ, _+_, _%_}
 use mathlib.Core.Bool.{Bool, true, false, cond, not, _||_}
 use mathlib.Core.List.{List, [], _∷_}
@@ -14,6 +13,7 @@ use Rattle.lines.specs.Scan.{fresh, blankOf, finishOf}
 use Rattle.lines.specs.Text.{Values, values, Rest, within, broken, Taken, takenOf}
 use Rattle.listing.specs.declared.Load.{Load}
 
+-- the first line of the input is line 1
 abbrev pub startOf : Load
 startOf = record { refusal = 0; bad = false; line = 1; scan = fresh; board = emptyOf }
 

@@ -1,5 +1,4 @@
 -- What the listing program has made of a text, in the terms of the text's lines, as definitions. Assumes nothing.
--- a board, or "A refusal prints `refused`, a space and its number", or "`bad line`, a space and its number, counted from 1"
 use Prim.Native.Nat.{ℕ}
 use mathlib.Core.Bool.{cond}
 use mathlib.Core.List.{List, [], _∷_}
@@ -10,6 +9,7 @@ use Rattle.lines.specs.Text.{Values, Ending, whole, badLine}
 use Rattle.listing.specs.Loading.{rowOf}
 use Rattle.listing.specs.declared.Load.{Load}
 
+-- a board, or "A refusal prints `refused`, a space and its number", or "`bad line`, a space and its number, counted from 1"
 pub data Outcome : Type 0 where
   loaded : Board → Outcome
   refusedBy : ℕ → Outcome

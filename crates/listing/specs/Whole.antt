@@ -1,5 +1,4 @@
 -- Chunk borders do not matter, and a whole text gives what its lines say: their rows added in order to the empty board, up to the first thing that is wrong. Assumes nothing.
--- ---- nothing after the first wrong thing is looked at
 use Prim.Native.Nat.{ℕ, _+_, _≤_, _<_}
 use native.Mathlib.Omega.{arith}
 use native.Mathlib.Nat.{mod-eq-of-lt}
@@ -25,6 +24,8 @@ use Rattle.lines.specs.Chunks.{follow, chunks, text-read, said-once}
 use Rattle.listing.specs.Loading.{startOf, stopped, rowOf, enterOf, goesOn, isBad, enterAll, restOf, absorb, feedOf, lastOf, endOf}
 use Rattle.listing.specs.Outcome.{loaded, refusedBy, outcomeOf, addRows}
 use Rattle.listing.specs.declared.Load.{Load}
+
+-- ---- nothing after the first wrong thing is looked at
 
 module _ (l : Load) (h : stopped l ≡ true) where
   enter-stopped : (vs : List Values) → enterAll l vs ≡ l

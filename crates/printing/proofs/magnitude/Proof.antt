@@ -1,9 +1,9 @@
--- `lines::magnitude` meets its contract, also for the lowest i64, whose magnitude no i64 holds. Assumes nothing.
+-- `printing::magnitude` meets its contract, also for the lowest i64, whose magnitude no i64 holds. Assumes nothing.
 use mathlib.Core.Path.{ap}
 use lib.IntN.{natAbs}
-use Rattle.lines.proofs.Signed.{kept, plain-cast, less-fits, less-cast, less-one, less-size}
-use Rattle.lines.proofs.magnitude.Statement.{statement}
-use Rattle.lines.proofs.magnitude.Tie as tie
+use Rattle.printing.proofs.Unsigned.{kept, plain-cast, less-fits, less-cast, less-one, less-size}
+use Rattle.printing.proofs.magnitude.Statement.{statement}
+use Rattle.printing.proofs.magnitude.Tie as tie
 
 sub-less : tie.Need-sub-less
 sub-less c = less-fits (c .before .args .n) (c .before .fits .n) (c .if1 .taken)
