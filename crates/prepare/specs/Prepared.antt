@@ -8,15 +8,10 @@ use lib.IntN.{ℤ}
 use lib.ListN.{length}
 use Rattle.board.specs.declared.Row.{Row}
 use Rattle.paths.specs.Forest.{memb}
-use Rattle.paths.specs.Rows.{row as rowOf, parentZero, numeralIn}
+use Rattle.paths.specs.Rows.{row as rowOf}
 use Rattle.links.specs.Links.{bit, of, rowsBy, keysOf, nexts, firsts, Ordered}
-use Rattle.prepare.specs.declared.Start.{Start}
-use Rattle.prepare.specs.declared.Start.the-variants.{ParentZero, Listed}
-
--- "the start rule (rows with parent 0, or rows whose numeral is in a lent list)"
-abbrev pub startRule : Start → List ℕ → Row → Bool
-startRule ParentZero list = parentZero
-startRule Listed list = numeralIn list
+use Rattle.request.specs.declared.Start.{Start}
+use Rattle.request.specs.declared.Start.the-variants.{ParentZero, Listed}
 
 -- the flags of the start rows, by the parents and the numerals at the places
 abbrev pub startFlags : Start → List ℕ → List ℕ → List ℕ → List ℕ

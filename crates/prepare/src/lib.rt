@@ -4,14 +4,10 @@ ghost use mathlib.Core.List.{map};
 ghost use Prim.Native.Nat.{_≤_};
 ghost use lib.ListN.{length, take};
 ghost use Rattle.links.specs.Links.{keysOf, firsts};
-ghost use Rattle.prepare.specs.Prepared.{startRule, startFlags, Arranged, Fields, Links, Prepared, Places};
+ghost use Rattle.request.specs.Build.{startRule};
+ghost use Rattle.prepare.specs.Prepared.{startFlags, Arranged, Fields, Links, Prepared, Places};
 use board::Row;
-
-// Which rows start a path: those with parent 0, or those whose numeral is in a lent list.
-pub enum Start {
-    ParentZero,
-    Listed,
-}
+use request::Start;
 
 // The row numbers in sibling order, and the parents and numerals in that order.
 fn arrange(
