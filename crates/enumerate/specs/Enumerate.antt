@@ -2,21 +2,18 @@
 use mathlib.Core.Path.{_≡_}
 use mathlib.Core.Logic.{_≢_}
 use mathlib.Core.Bool.{Bool, true, false, cond, not}
-use mathlib.Core.List.{List, [], _∷_, map}
+use mathlib.Core.List.{List, [], map}
 use Prim.Native.Nat.{ℕ, suc, _+_, _*_, _%_, _^_, _-_, _≤_}
-use lib.Dec.{eqb, ltb}
+use lib.Dec.{eqb}
 use lib.ListN.{length, getD, set, replicate}
 use Rattle.lists.specs.Members.{filter}
 use Rattle.board.specs.declared.Row.{Row}
 use Rattle.image.specs.declared.Body.{Body}
-use Rattle.options.specs.declared.Depth.{Depth}
-use Rattle.options.specs.declared.Depth.the-variants.{None}
 use Rattle.paths.specs.Forest.{memb}
 use Rattle.paths.specs.Rows.{row as rowOf, num, par, RowOf}
 use Rattle.paths.specs.Emit.{emit}
 use Rattle.paths.specs.Nodes.{sorted, noParent}
-use Rattle.paths.specs.Bodies.{mkBody, bodies}
-use Rattle.paths.specs.Refusals.{orphanChoice}
+use Rattle.paths.specs.Bodies.{mkBody}
 use Rattle.links.specs.Links.{bit, Ordered, firsts, nexts, keysOf}
 use Rattle.passes.specs.Passes.{rowsTo}
 use Rattle.orphans.specs.Flags.{maskedParents, topFlags}

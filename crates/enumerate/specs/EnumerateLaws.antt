@@ -1,32 +1,31 @@
 -- The enumeration leaves the bodies of the paper's nodes, under each orphan choice. Assumes nothing.
 use mathlib.Core.Path.{_≡_, refl, sym, ap, ap₂, _∙_, subst}
 use mathlib.Core.Logic.{_≢_, _⊎_, inl, inr, ⊎-elim}
-use mathlib.Core.Bool.{Bool, true, false, cond, not}
+use mathlib.Core.Bool.{Bool, true, false, cond}
 use mathlib.Core.List.{List, [], _∷_, _++_, map, append-assoc, append-nil}
-use Prim.Native.Nat.{ℕ, zero, suc, _+_, _-_, _*_, _%_, _^_, _≤_, _<_, min}
-use native.Mathlib.Nat.{zero-add}
+use Prim.Native.Nat.{ℕ, zero, suc, _+_, _-_, _*_, _%_, _^_, _≤_, _<_}
 use native.Mathlib.Numerals.{add-one}
 use native.Mathlib.Omega.{arith}
 use native.Mathlib.Decide.{ℕ-discrete, decLt}
 use borrow.Author.Tests.{eq-eqb, ne-eqb}
 use lib.Dec.{T, eqb, eqb→eq}
 use lib.ListN.{length, getD, set, length-append, length-map}
-use lib.Seq.{sets, ext-getD, length-sets, take-length}
-use Rattle.lists.specs.Members.{_∈_, filter, keep, filter-none, filter-append, map-append, numbers, numbers-out, getD-in, keep-yes}
+use lib.Seq.{sets, ext-getD, take-length}
+use Rattle.lists.specs.Members.{_∈_, filter, keep, filter-none, map-append, numbers, numbers-out, getD-in}
 use Rattle.lists.specs.Counting.{by-place, by-place-length}
 use Rattle.lists.specs.Stores.{getD-mapped}
 use Rattle.board.specs.declared.Row.{Row}
 use Rattle.image.specs.declared.Body.{Body}
-use Rattle.image.specs.Layout.{bodyAt, rowAt, bodyWords, flat, checked}
+use Rattle.image.specs.Layout.{bodyAt, rowAt, bodyWords, flat}
 use Rattle.image.specs.ImageLaws.{length-flat}
 use Rattle.options.specs.declared.Depth.{Depth}
 use Rattle.options.specs.declared.Depth.the-variants.{None}
 use Rattle.options.specs.Options.{levelLimit}
-use Rattle.paths.specs.Forest.{memb, next}
-use Rattle.paths.specs.Rows.{row as boardRow, num, par, RowOf}
+use Rattle.paths.specs.Forest.{next}
+use Rattle.paths.specs.Rows.{row as boardRow, num, par}
 use Rattle.paths.specs.Paths.{last, ignore, error, adopt, root}
 use Rattle.paths.specs.Nodes.{sorted, starts, regular, orphanRows, tops, nodes}
-use Rattle.paths.specs.Emit.{emit, orElse}
+use Rattle.paths.specs.Emit.{emit}
 use Rattle.paths.specs.Bodies.{mkBody, bodies}
 use Rattle.paths.specs.EmitLaws.{emit-nil}
 use Rattle.paths.specs.BodyWalks.{bodies-ignore, bodies-error, bodies-root}
@@ -39,13 +38,13 @@ use Rattle.links.specs.Children.{child-long, parent-long}
 use Rattle.links.specs.Starts.{flagged-rows}
 use Rattle.orphans.specs.Flags.{lastFlag, lastBelow}
 use Rattle.passes.specs.Passes.{Named, rowsTo}
-use Rattle.walk.specs.Walk.{Rows, rowOf, Hung, Marked, Clear, Walked, nodeBody, flagged}
+use Rattle.walk.specs.Walk.{Rows, rowOf, Clear, Walked, flagged}
 use Rattle.walk.specs.WalkLaws.{emit-append, walked-join, clear-marked}
 use Rattle.walk.specs.Meaning.{hung}
 use Rattle.walk.specs.declared.Met.{Met}
 use Rattle.enumerate.specs.declared.Begun.{Begun}
-use Rattle.enumerate.specs.Enumerate.{Ready, StartFlags, Starting, StartsWalked, outside, topsAmong, orphanLevel, orphansFrom, Raised, Adopted}
-use Rattle.enumerate.specs.WalkJoins.{getD-inside, flagged-split, walked-longer, sized, written-sized, size-written, check-raised}
+use Rattle.enumerate.specs.Enumerate.{Ready, StartFlags, Spare, Starting, StartsWalked, outside, topsAmong, orphanLevel, orphansFrom, Adopted}
+use Rattle.enumerate.specs.WalkJoins.{getD-inside, flagged-split, walked-longer, written-sized, size-written, check-raised}
 use Rattle.enumerate.specs.OrphanLaws.{row-count}
 
 -- ---- the rows of the bodies written so far
@@ -108,6 +107,18 @@ last-none flags (suc k) h b q l = go (λ c d. last-none flags k (omega arith) c 
         at (yes z) = λ o. subst T e (subst (λ (n : ℕ). T (eqb n 1)) (sym (ap (λ (j : ℕ). getD flags j 0) (sym z) ∙ o)) tt)
         at (no n) = rec b (omega arith)
 
+pub last-le : (flags : List ℕ) → lastFlag flags ≤ length flags
+unfolding lastFlag
+last-le flags = below (length flags) (omega arith)
+  where
+    below : (k : ℕ) → k ≤ length flags → lastBelow flags k ≤ length flags
+    below zero h = omega arith
+    below (suc k) h = step (eqb (getD flags k 0) 1) (below k (omega arith))
+      where
+        step : (t : Bool) → lastBelow flags k ≤ length flags → cond t k (lastBelow flags k) ≤ length flags
+        step true r = omega arith
+        step false r = r
+
 one-flagged : (flags : List ℕ) (n : ℕ) → n ≡ length flags → lastFlag flags < n → flagged flags (lastFlag flags) n ≡ lastFlag flags ∷ []
 unfolding flagged lastFlag
 one-flagged flags n e h =
@@ -150,7 +161,7 @@ unfolding levelLimit orphanRows tops
 adopt-bodies R start s a e rank k r q =
     bodies-adopt R start s a e
     ∙ ap₂ (λ (i j : ℕ). firstFor R s ++ (mkBody R false a (suc (length (ownFor R a i) + length (orphansFor R (map last (regular R start None)) i 2 j))) 0 i 1 false ∷ (ownFor R a i ++ orphansFor R (map last (regular R start None)) i 2 j)))
-      (sym r) (ap (λ (i : ℕ). suc i + length (ownFor R a i)) (sym r) ∙ sym q)
+    (sym r) (ap (λ (i : ℕ). suc i + length (ownFor R a i)) (sym r) ∙ sym q)
 
 snoc-view : (l : List ℕ) → (l ≡ []) ⊎ ((s : List ℕ) × (a : ℕ) × (l ≡ s ++ (a ∷ [])))
 snoc-view [] = inl refl
@@ -186,8 +197,14 @@ regular-shorter R start depth (suc (suc zero)) low none =
         let taken : List Body = orphansFor R (map last (regular R start None)) rank 2 k in
         let x : Body = mkBody R false (q .1) (suc (length own)) 0 rank 1 false in
         let y : Body = mkBody R false (q .1) (suc (length own + length taken)) 0 rank 1 false in
-        omega (arith, ap length (adopt-regular R start (q .0) (q .1) (q .2) rank refl), ap length (adopt-bodies R start (q .0) (q .1) (q .2) rank k refl refl),
-          length-append (firstFor R (q .0)) (x ∷ own), length-append (firstFor R (q .0)) (y ∷ (own ++ taken)), length-append own taken)
+        omega (
+          arith,
+          ap length (adopt-regular R start (q .0) (q .1) (q .2) rank refl),
+          ap length (adopt-bodies R start (q .0) (q .1) (q .2) rank k refl refl),
+          length-append (firstFor R (q .0)) (x ∷ own),
+          length-append (firstFor R (q .0)) (y ∷ (own ++ taken)),
+          length-append own taken,
+        )
 regular-shorter R start depth (suc (suc (suc zero))) low none =
     let e : depth ≡ None = none (omega arith) in
     subst (λ (d : Depth). length (regularFor R start d) ≤ length (bodies R start d root)) (sym e)
@@ -219,6 +236,15 @@ module _ (R : List Row) (start : Row → Bool) (depth : Depth) (row parent numer
       ap (λ (j : ℕ). map (λ q. getD row q 0) (filter (λ q. eqb (getD flags q 0) 1) (numbers 0 j))) z
       ∙ flagged-rows (λ x. start (boardRow R x)) row flags 0 (length row) flags-are (omega arith)
       ∙ ap (filter (λ x. start (boardRow R x))) (take-length row ∙ ready .ordered .rows-are)
+
+  pub no-starts : (p : ℕ) → p ≡ lastFlag flags → length row ≤ p → starts R start ≡ []
+  no-starts p e h = sym all-starts ∙ ap (map (rowOf W)) (none-flagged flags (length child) (child-count ∙ sym flags-long) (omega (arith, child-count)))
+
+  pub last-in : (p : ℕ) → p ≡ lastFlag flags → p ≤ length child
+  last-in p e = omega (arith, last-le flags, child-count, flags-long)
+
+  pub limit-rows : (lim : ℕ) → lim ≡ levelLimit depth (length row) → lim ≡ levelLimit depth (length R)
+  limit-rows lim e = e ∙ ap (λ (k : ℕ). levelLimit depth k) (row-count R row parent numeral child next′ class owner keys ready)
 
   module _ (cap : ℕ) (on on₁ ix ix₁ : List ℕ) (b : Begun) (fits : 8 + 6 * cap ≤ length ix) (clear : Clear on) (lim : ℕ) (limit-is : lim ≡ levelLimit depth (length R))
       (last-is : ℕ) (walks : StartsWalked (record { child = child; next = next′; cls = class; numeral = numeral; row = row }) flags last-is lim cap on on₁ ix ix₁ b) where
@@ -274,7 +300,7 @@ module _ (R : List Row) (start : Row → Bool) (depth : Depth) (row parent numer
           let L : List Body = regular-bodies in
           let i : k - 1 < length L = omega (arith, count-is) in
           let e : rowAt ix₁ k ≡ getD L (k - 1) noBody .row =
-            ap (λ (s : List ℕ). rowAt s k) (begun-walked .written fit) ∙ ap (λ (j : ℕ). rowAt (sets ix 8 (flat L)) j) (sym back) ∙ row-written ix L (k - 1) noBody room i in
+          ap (λ (s : List ℕ). rowAt s k) (begun-walked .written fit) ∙ ap (λ (j : ℕ). rowAt (sets ix 8 (flat L)) j) (sym back) ∙ row-written ix L (k - 1) noBody room i in
           let m : getD L (k - 1) noBody ∈ bodies R start depth ignore = subst (λ (l : List Body). getD L (k - 1) noBody ∈ l) (sym (bodies-ignore R start depth)) (getD-in L (k - 1) noBody i) in
           let r = bodies-bounded R start depth ignore (getD L (k - 1) noBody) m .row-of in
           (omega (arith, r), omega (arith, r, row-count R row parent numeral child next′ class owner keys ready))
@@ -348,9 +374,9 @@ module _ (R : List Row) (start : Row → Bool) (depth : Depth) (row parent numer
         adopt-size =
             let L : List Body = firstFor R s ++ (mine (suc (length own)) ∷ own) in
             let e : getD ix₁ (8 + 6 * b .before + 2) 0 ≡ suc (length own) =
-              ap (λ (w : List ℕ). getD w (8 + 6 * b .before + 2) 0) (begun-walked .written fit ∙ ap (λ (l : List Body). sets ix 8 (flat l)) regular-is)
-              ∙ ap (λ (j : ℕ). getD (sets ix 8 (flat L)) (8 + 6 * j + 2) 0) before-first
-              ∙ size-written ix (firstFor R s) (mine (suc (length own))) own (omega (arith, counted, length-append (firstFor R s) (mine (suc (length own)) ∷ own))) in
+            ap (λ (w : List ℕ). getD w (8 + 6 * b .before + 2) 0) (begun-walked .written fit ∙ ap (λ (l : List Body). sets ix 8 (flat l)) regular-is)
+            ∙ ap (λ (j : ℕ). getD (sets ix 8 (flat L)) (8 + 6 * j + 2) 0) before-first
+            ∙ size-written ix (firstFor R s) (mine (suc (length own))) own (omega (arith, counted, length-append (firstFor R s) (mine (suc (length own)) ∷ own))) in
             omega (arith, e, counted)
 
         taken : List Body
@@ -362,7 +388,7 @@ module _ (R : List Row) (start : Row → Bool) (depth : Depth) (row parent numer
             let lev : orphanLevel (b .before + 1) ≡ 2 = ap (λ (t : Bool). cond t 1 2) (ne-eqb (b .before + 1) 0 (λ z. absurd (omega arith))) in
             let k : b .count + 1 ≡ suc rank + length own = omega (arith, counted, before-first) in
             let same : orphansFor R (map last (regular R start None)) rank 2 (b .count + 1) ≡ taken =
-              ap₂ (λ (ends : List ℕ) (l : ℕ). orphansFor R ends rank l (b .count + 1)) (ap (λ (d : Depth). map last (regular R start d)) (sym none) ∙ sym ends-are) (sym lev) in
+            ap₂ (λ (ends : List ℕ) (l : ℕ). orphansFor R ends rank l (b .count + 1)) (ap (λ (d : Depth). map last (regular R start d)) (sym none) ∙ sym ends-are) (sym lev) in
             let size : (T : List Body) → suc (length own + length T) ≡ suc (length own) + length T = λ (T : List Body). omega arith in
             ap (λ (d : Depth). bodies R start d adopt) none
             ∙ adopt-bodies R start s a starts-split rank (b .count + 1) rank-is k
@@ -396,17 +422,17 @@ module _ (R : List Row) (start : Row → Bool) (depth : Depth) (row parent numer
 
             go : Dec (cap < q .met .count) → Walked (A ++ (mine (suc (length own) + length taken) ∷ T)) 0 cap 0 on on₂ ix ix₂ r
             go (yes over) = record {
-                count = omega (arith, q .count-is, both .count, lengths);
-                marks = both .marks;
-                written = λ h. absurd (omega (arith, q .count-is));
-                check = λ h. absurd (omega (arith, q .count-is));
-              }
+              count = omega (arith, q .count-is, both .count, lengths);
+              marks = both .marks;
+              written = λ h. absurd (omega (arith, q .count-is));
+              check = λ h. absurd (omega (arith, q .count-is));
+            }
             go (no low) =
                 let h : q .met .count ≤ cap = omega arith in
                 let w = q .raised h in
                 let size-is : getD (q .middle) (8 + 6 * b .before + 2) 0 ≡ suc (length own) =
-                  ap (λ (l : List ℕ). getD l (8 + 6 * b .before + 2) 0) (both .written h) ∙ ap (λ (j : ℕ). getD (sets ix 8 (flat (A ++ (mine (suc (length own)) ∷ T)))) (8 + 6 * j + 2) 0) before-first
-                  ∙ size-written ix A (mine (suc (length own))) T (omega (arith, both .count, length-append A (mine (suc (length own)) ∷ T))) in
+                ap (λ (l : List ℕ). getD l (8 + 6 * b .before + 2) 0) (both .written h) ∙ ap (λ (j : ℕ). getD (sets ix 8 (flat (A ++ (mine (suc (length own)) ∷ T)))) (8 + 6 * j + 2) 0) before-first
+                ∙ size-written ix A (mine (suc (length own))) T (omega (arith, both .count, length-append A (mine (suc (length own)) ∷ T))) in
                 record {
                   count = omega (arith, q .count-is, both .count, lengths);
                   marks = both .marks;
@@ -418,3 +444,22 @@ module _ (R : List Row) (start : Row → Bool) (depth : Depth) (row parent numer
                       ∙ ap₂ (λ (c k : ℕ). (c + k) % 2 ^ 32) (both .check h) (more h)
                       ∙ sym (check-raised 0 (length taken) A (mine (suc (length own))) T);
                 }
+
+-- the slices beside the index, with the marks as they were
+pub spare-kept : (n : ℕ) (reached masked flags keys scratch on on′ : List ℕ) → on′ ≡ on → Spare n reached masked flags keys scratch on → Spare n reached masked flags keys scratch on′
+spare-kept n reached masked flags keys scratch on on′ e z = subst (λ (m : List ℕ). Spare n reached masked flags keys scratch m) (sym e) z
+
+pub choice-two : (orphan : ℕ) → orphan ≤ 3 → (orphan < 2 → ⊥) → (orphan ≡ 3 → ⊥) → orphan ≡ 2
+choice-two orphan a b c = go (ℕ-discrete orphan 2)
+  where
+    go : Dec (orphan ≡ 2) → orphan ≡ 2
+    go (yes e) = e
+    go (no n) = absurd (three (ℕ-discrete orphan 3))
+      where
+        three : Dec (orphan ≡ 3) → ⊥
+        three (yes e) = c e
+        three (no m) = b (omega arith)
+
+pub by-choice : (R : List Row) (start : Row → Bool) (depth : Depth) (orphan k : ℕ) → orphan ≡ k → (n cap check : ℕ) (on on′ ix ix′ : List ℕ) (r : Met)
+    → Walked (bodies R start depth (orphanChoice k)) n cap check on on′ ix ix′ r → Walked (bodies R start depth (orphanChoice orphan)) n cap check on on′ ix ix′ r
+by-choice R start depth orphan k e n cap check on on′ ix ix′ r w = subst (λ (o : ℕ). Walked (bodies R start depth (orphanChoice o)) n cap check on on′ ix ix′ r) (sym e) w

@@ -1,25 +1,24 @@
 -- How the walks of an enumeration join: the start rows in two parts, and a tree size raised afterwards. Assumes nothing.
 use mathlib.Core.Path.{_≡_, refl, sym, ap, _∙_, subst}
-use mathlib.Core.Bool.{Bool, true, false}
+use mathlib.Core.Bool.{Bool, false}
 use mathlib.Core.List.{List, [], _∷_, _++_, map, append-assoc}
-use Prim.Native.Nat.{ℕ, zero, suc, _+_, _-_, _*_, _%_, _^_, _≤_, _<_, min}
+use Prim.Native.Nat.{ℕ, zero, suc, _+_, _-_, _*_, _%_, _^_, _≤_, _<_}
 use native.Mathlib.Nat.{add-zero, zero-add}
-use native.Mathlib.Numerals.{add-one}
 use native.Mathlib.Omega.{arith}
 use lib.Dec.{eqb}
 use lib.ListN.{length, getD, set, take, drop, length-append, List·getD-append}
-use lib.Seq.{sets, sets-eq, set-set, length-take-le, getD-append-add}
+use mathlib.Core.Logic.{_≢_}
+use lib.Seq.{sets, sets-eq, set-set, getD-set-other, length-take-le, getD-append-add}
 use Rattle.lists.specs.Members.{filter, filter-append, map-append, numbers}
 use Rattle.lists.specs.Stores.{set-sets}
 use Rattle.image.specs.declared.Body.{Body}
 use Rattle.image.specs.Layout.{bodyWords, flat, checked, packed}
-use Rattle.image.specs.ImageLaws.{flat-append, length-flat, length-body, checked-append}
+use Rattle.image.specs.ImageLaws.{flat-append, length-flat, checked-append}
 use Rattle.paths.specs.Emit.{emit}
-use Rattle.walk.specs.Walk.{Rows, rowOf, Hung, Marked, Walked, NodesWalked, nodeBody, flagged}
+use Rattle.walk.specs.Walk.{Rows, rowOf, Marked, Walked, NodesWalked, nodeBody, flagged}
 use Rattle.walk.specs.WalkLaws.{emit-append, walked-join, walked-stop}
 use Rattle.walk.specs.declared.Met.{Met}
-use Rattle.enumerate.specs.declared.Begun.{Begun}
-use Rattle.enumerate.specs.Enumerate.{Starting, StartsWalked}
+use Rattle.enumerate.specs.Enumerate.{StartsWalked}
 
 numbers-split : (a m n : ℕ) → m ≤ n → numbers a n ≡ numbers a m ++ numbers (a + m) (n - m)
 numbers-split a zero n h = let e : n ≡ n - 0 = omega arith in ap (λ (j : ℕ). numbers a j) e ∙ ap (λ (j : ℕ). numbers j (n - 0)) (sym (add-zero a))
@@ -179,3 +178,18 @@ check-raised c k A b T =
     ∙ checked-append c (flat A) (flat (sized b (b .size + k) ∷ T))
     ∙ checked-sized (checked c (flat A)) k b T
     ∙ ap (λ (z : ℕ). (z + k) % 2 ^ 32) (sym (ap (checked c) (flat-append A (b ∷ T)) ∙ checked-append c (flat A) (flat (b ∷ T))))
+
+-- what stands before the bodies that a walk writes is kept
+getD-before : (xs : List ℕ) (i : ℕ) (vs : List ℕ) (j d : ℕ) → j < i → getD (sets xs i vs) j d ≡ getD xs j d
+getD-before xs i [] j d h = refl
+getD-before xs i (v ∷ vs) j d h =
+    let ne : j ≢ i = omega arith in
+    getD-before (set xs i v) (suc i) vs j d (omega arith) ∙ getD-set-other xs i j v d ne
+
+pub size-kept : (L : List Body) (n cap check before : ℕ) (on on′ ix ix′ : List ℕ) (r : Met) → Walked L n cap check on on′ ix ix′ r → r .count ≤ cap → before < n
+    → getD ix′ (8 + 6 * before + 2) 0 ≡ getD ix (8 + 6 * before + 2) 0
+size-kept L n cap check before on on′ ix ix′ r w fit h =
+    ap (λ (l : List ℕ). getD l (8 + 6 * before + 2) 0) (w .written fit) ∙ getD-before ix (8 + 6 * n) (flat L) (8 + 6 * before + 2) 0 (omega arith)
+
+pub count-grows : (L : List Body) (n cap check : ℕ) (on on′ ix ix′ : List ℕ) (r : Met) → Walked L n cap check on on′ ix ix′ r → n ≤ cap → n ≤ r .count
+count-grows L n cap check on on′ ix ix′ r w h = omega (arith, w .count)
