@@ -1,0 +1,3 @@
+pub mod Guarantee
+pub mod BodyLaws
+pub mod SentenceLaws
