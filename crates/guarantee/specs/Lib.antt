@@ -1,3 +1,6 @@
 pub mod Guarantee
 pub mod BodyLaws
 pub mod SentenceLaws
+pub mod MinutesLaws
+pub mod NavigationLaws
+pub mod GuaranteeLaws

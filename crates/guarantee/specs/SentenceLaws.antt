@@ -145,7 +145,7 @@ module _ (R : List Row) (start : Row → Bool) (depth : Depth) (o : Orphan) wher
       ↔ ((p : List ℕ) × (p ∈ nodes R start depth o) × (1 < treeSize (nodes R start depth o) p) × Shares R code depth start (nodes R start depth o) p)
   some-wide code =
       let f = some-body (λ (b : Body). ltb 1 (b .size) && shared (bodies R start depth o) b)
-          (λ p. (1 < treeSize (nodes R start depth o) p) × Shares R code depth start (nodes R start depth o) p) (wide-at code) in
+      (λ p. (1 < treeSize (nodes R start depth o) p) × Shares R code depth start (nodes R start depth o) p) (wide-at code) in
       ((λ t. let r = f .0 t in (r .0, r .1, r .2 .0, r .2 .1)), (λ p. f .1 (p .0, p .1, (p .2, p .3))))
 
 module _ (R : List Row) (code : ℕ) (depth : Depth) (start : Row → Bool) (words totals : ℕ) where
