@@ -4,3 +4,5 @@ pub mod SentenceLaws
 pub mod MinutesLaws
 pub mod NavigationLaws
 pub mod GuaranteeLaws
+pub mod Marked
+pub mod MarkedLaws
