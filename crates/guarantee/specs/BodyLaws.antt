@@ -1,5 +1,5 @@
 -- The nodes as the statement lists them, and the body that an index holds at each rank. Assumes nothing.
-use mathlib.Core.Path.{_≡_, refl, sym, ap, subst, _∙_}
+use mathlib.Core.Path.{_≡_, sym, ap, subst, _∙_}
 use mathlib.Core.Logic.{_⊎_, inl, inr, ⊎-elim, _↔_}
 use mathlib.Core.Bool.{Bool, true, false}
 use mathlib.Core.List.{List, [], _++_}
@@ -8,7 +8,7 @@ use native.Mathlib.Omega.{arith}
 use native.Mathlib.Decide.{decLt}
 use lib.Dec.{T}
 use lib.ListN.{length, getD, length-append, List·getD-append}
-use Rattle.lists.specs.Members.{_∈_, getD-in, getD-append-right}
+use Rattle.lists.specs.Members.{getD-in, getD-append-right}
 use Rattle.board.specs.declared.Row.{Row}
 use Rattle.options.specs.declared.Depth.{Depth}
 use Rattle.image.specs.declared.Body.{Body}

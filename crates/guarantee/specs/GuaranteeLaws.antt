@@ -1,6 +1,5 @@
 -- Demand 3 holds of every list of calls. Assumes nothing.
 use mathlib.Core.Path.{_≡_, refl, sym, ap, subst, _∙_}
-use mathlib.Core.Logic.{_≢_}
 use mathlib.Core.Bool.{Bool, true, false, cond, not}
 use mathlib.Core.List.{List, map}
 use Prim.Native.Nat.{ℕ, _+_, _*_, _≤_, _<_}
@@ -16,12 +15,10 @@ use Rattle.board.specs.declared.Row.{Row}
 use Rattle.board.specs.declared.Board.{Board}
 use Rattle.board.specs.Edits.{emptyOf, rowsOf, soundOf}
 use Rattle.history.specs.declared.Call.{Call}
-use Rattle.history.specs.Machine.{after, start}
 use Rattle.history.specs.Calls.{final}
 use Rattle.history.specs.Simulation.{simulation, final-rows, final-sound, final-valid}
 use Rattle.options.specs.declared.Depth.{Depth}
 use Rattle.options.specs.Options.{orphanOf}
-use Rattle.image.specs.declared.Body.{Body}
 use Rattle.image.specs.Layout.{imageWords}
 use Rattle.image.specs.ImageLaws.{Holds, holds-front, bodies-read}
 use Rattle.paths.specs.Forest.{memb}

@@ -10,10 +10,9 @@ use Rattle.lists.specs.Members.{sort, insert}
 use Rattle.lists.specs.Moves.{without}
 use Rattle.lists.specs.Stores.{front}
 use Rattle.board.specs.declared.Row.{Row}
-use Rattle.board.specs.declared.Board.{Board}
-use Rattle.board.specs.Edits.{emptyOf, rowsOf, soundOf}
+use Rattle.board.specs.Edits.{emptyOf, rowsOf}
 use Rattle.history.specs.declared.Call.{Call}
-use Rattle.history.specs.declared.Call.the-variants.{Add, Withdraw, Undo}
+use Rattle.history.specs.declared.Call.the-variants.{Withdraw, Undo}
 use Rattle.history.specs.Machine.{after, start}
 use Rattle.history.specs.Calls.{final}
 use Rattle.history.specs.Simulation.{final-rows, final-sound, final-refusals}
@@ -21,7 +20,7 @@ use Rattle.options.specs.declared.Depth.{Depth}
 use Rattle.options.specs.declared.Depth.the-variants.{None, Limit}
 use Rattle.options.specs.Options.{orphanOf, levelLimit}
 use Rattle.image.specs.Layout.{bodyWords, flat, checked, contentsWords, imageWords, bodyOf, bodiesOf}
-use Rattle.image.specs.Sample.{listing, listingTotals, listingWords, listing-words}
+use Rattle.image.specs.Sample.{listing, listingTotals, listing-words}
 use Rattle.paths.specs.Forest.{forest}
 use Rattle.paths.specs.Rows.{parentZero}
 use Rattle.paths.specs.Nodes.{sorted, starts, regular, orphanRows, tops, orphans, orphanNodes, nodes}

@@ -1,13 +1,13 @@
 -- Descendants and subtree sum on an index and totals that a build left, and on slices of zeros. Assumes nothing.
 use mathlib.Core.Path.{_≡_, refl, sym, ap, subst, _∙_}
-use mathlib.Core.Logic.{_⊎_, inl, inr, ⊎-elim, _≢_, _↔_}
+use mathlib.Core.Logic.{_⊎_, inl, inr, _↔_}
 use mathlib.Core.Bool.{Bool, true, false, cond, _||_}
-use mathlib.Core.List.{List, [], _∷_, _++_}
+use mathlib.Core.List.{List}
 use Prim.Native.Nat.{ℕ, zero, suc, _+_, _-_, _≤_, _<_}
 use native.Mathlib.Omega.{arith}
 use lib.Dec.{T, eqb, ltb}
 use lib.IntN.{ℤ, pos, negsuc, _-ℤ_}
-use lib.Signed.{mag, ltZ}
+use lib.Signed.{mag}
 use lib.ListN.{length, getD, replicate, drop, List·getD-append}
 use borrow.Author.Tests.{ne-eqb, le-ltb, eqb-false, ltb-false}
 use Rattle.lists.specs.Choice.{after, or-no}
@@ -15,8 +15,7 @@ use Rattle.lists.specs.Members.{filter, numbers, totals-length}
 use Rattle.lists.specs.Stores.{front, front-is, length-front}
 use Rattle.board.specs.declared.Row.{Row}
 use Rattle.options.specs.declared.Depth.{Depth}
-use Rattle.image.specs.declared.Body.{Body}
-use Rattle.image.specs.Layout.{nodeCount, sizeAt, levelAt, badContents, contentsRefusal}
+use Rattle.image.specs.Layout.{nodeCount, sizeAt, levelAt, badContents}
 use Rattle.image.specs.ImageLaws.{Holds, node-count-read, contents-hold}
 use Rattle.paths.specs.Paths.{Orphan}
 use Rattle.paths.specs.Nodes.{nodes}
@@ -27,7 +26,7 @@ use Rattle.paths.specs.BodyLaws.{bodies-length}
 use Rattle.paths.specs.Bounds.{totals-bounded}
 use Rattle.navigate.specs.Navigate.{badRank, badSpan, endOf, spanRefusal, within, distance, descendantList, listAnswer, listOut, descendantsAnswer, descendantsOut}
 use Rattle.sums.specs.Sums.{totalAt, fewTotals, totalsRefusal, beyond, sumAnswer, subtreeSum, subtreeRefusal, subtreeAnswer}
-use Rattle.guarantee.specs.Guarantee.{First, applies, passes, noOther, NoRank, Descendants, Sum}
+use Rattle.guarantee.specs.Guarantee.{applies, passes, NoRank, Descendants, Sum}
 use Rattle.guarantee.specs.BodyLaws.{read-of}
 use Rattle.guarantee.specs.SentenceLaws.{first-step, one-of, equal, less}
 use Rattle.guarantee.specs.MinutesLaws.{RowsFit}

@@ -3,7 +3,7 @@ use mathlib.Core.Path.{_≡_, refl, sym, ap, subst, _∙_}
 use mathlib.Core.Logic.{_⊎_, inl, inr, ⊎-elim, _≢_, _↔_}
 use mathlib.Core.Bool.{Bool, true, false, cond, not, _&&_, _||_}
 use mathlib.Core.List.{List, []}
-use Prim.Native.Nat.{ℕ, suc, _+_, _*_, _-_, _≤_, _<_}
+use Prim.Native.Nat.{ℕ, suc, _+_, _*_, _-_, _<_}
 use native.Mathlib.Omega.{arith}
 use native.Mathlib.Decide.{decLt}
 use lib.Dec.{T, T-not, not-T, eqb, eqb→eq, ltb, ltb→lt, lt→ltb}
@@ -17,11 +17,11 @@ use Rattle.paths.specs.Rows.{num, RowOf}
 use Rattle.paths.specs.Paths.{last, Orphan, Unreached, TopOrphan}
 use Rattle.paths.specs.Paths as paths
 use Rattle.paths.specs.Nodes.{starts, tops, orphanRows, nodes}
-use Rattle.paths.specs.Bodies.{nodeAt, treeSize, bodies}
+use Rattle.paths.specs.Bodies.{treeSize, bodies}
 use Rattle.paths.specs.Refusals.{orphanChoice, given, isEmpty, shared, refusal6, refusal7, refusal8, refusal9, refusal10, refusal11, refusal12, refusalOf}
 use Rattle.paths.specs.ForestLaws.{eq→eqb}
 use Rattle.paths.specs.NodeLaws.{nodes-once}
-use Rattle.paths.specs.BodyLaws.{bodies-length, body-numeral, body-size}
+use Rattle.paths.specs.BodyLaws.{bodies-length}
 use Rattle.paths.specs.RefusalLaws.{some-top, no-start, some-unreached, shared-is}
 use Rattle.guarantee.specs.Guarantee.{First, applies, passes, Closing, BodyOf, Shares, BuildRefusal}
 use Rattle.guarantee.specs.BodyLaws.{body-of}
