@@ -1,0 +1,110 @@
+-- The nodes as the statement lists them, and the body that an index holds at each rank. Assumes nothing.
+use mathlib.Core.Path.{_≡_, sym, ap, subst, _∙_}
+use mathlib.Core.Logic.{_⊎_, inl, inr, ⊎-elim, _↔_}
+use mathlib.Core.Bool.{Bool, true, false}
+use mathlib.Core.List.{List, [], _++_}
+use Prim.Native.Nat.{ℕ, _+_, _-_, _≤_, _<_}
+use native.Mathlib.Omega.{arith}
+use native.Mathlib.Decide.{decLt}
+use lib.Dec.{T}
+use lib.ListN.{length, getD, length-append, List·getD-append}
+use Rattle.lists.specs.Members.{getD-in, getD-append-right}
+use Rattle.board.specs.declared.Row.{Row}
+use Rattle.options.specs.declared.Depth.{Depth}
+use Rattle.image.specs.declared.Body.{Body}
+use Rattle.image.specs.Layout.{bodyOf}
+use Rattle.image.specs.ImageLaws.{Holds, body-read}
+use Rattle.paths.specs.Paths.{closes, Orphan, Regular, OrphanNode}
+use Rattle.paths.specs.Nodes.{regular, orphanNodes, nodes}
+use Rattle.paths.specs.Bodies.{nodeAt, orphanCloses, bodies}
+use Rattle.paths.specs.PathLaws.{regular-is}
+use Rattle.paths.specs.NodeLaws.{nodes-are, nodes-ordered, orphan-nodes-is, regular-or-orphan}
+use Rattle.paths.specs.BodyLaws.{bodies-length, body-row, body-numeral, body-size, body-parent, body-root, body-level, body-regular, body-orphan}
+use Rattle.paths.specs.Bounds.{level-fits}
+use Rattle.guarantee.specs.Guarantee.{NodeList, Closing, BodyOf}
+
+module _ (R : List Row) (starts : Row → Bool) (depth : Depth) (o : Orphan) where
+  pub node-list : NodeList R starts depth o (nodes R starts depth o)
+  node-list = record { holds = nodes-are R starts depth o; order = nodes-ordered R starts depth o }
+
+  -- the body b of a regular path p, or of an orphan node
+  abbrev Kind : List ℕ → Body → Type 0
+  Kind p b =
+      (Regular R starts depth p × (b .orphan ≡ false) × (b .closing ≡ closes R p))
+      ⊎ (OrphanNode R starts depth o p × (b .orphan ≡ true) × (b .closing ≡ orphanCloses R o p))
+
+  kind : (k : ℕ) (d : Body) → k < length (nodes R starts depth o) → Kind (getD (nodes R starts depth o) k []) (getD (bodies R starts depth o) k d)
+  unfolding nodes
+  kind k d h = go (decLt k (length F))
+    where
+      F : List (List ℕ)
+      F = regular R starts depth
+
+      O : List (List ℕ)
+      O = orphanNodes R starts depth o
+
+      late : (j : ℕ) → j < length O → Kind (getD (F ++ O) (length F + j) []) (getD (bodies R starts depth o) (length F + j) d)
+      late j l =
+          let e : getD (F ++ O) (length F + j) [] ≡ getD O j [] = getD-append-right F O j [] in
+          let b = body-orphan R starts depth o j d l in
+          inr (
+            subst (OrphanNode R starts depth o) (sym e) (orphan-nodes-is R starts depth o (getD O j []) .0 (getD-in O j [] l)),
+            ap (λ (x : Body). x .orphan) b,
+            ap (λ (x : Body). x .closing) b ∙ ap (orphanCloses R o) (sym e),
+          )
+
+      go : Dec (k < length F) → Kind (getD (F ++ O) k []) (getD (bodies R starts depth o) k d)
+      go (yes l) =
+          let e : getD (F ++ O) k [] ≡ getD F k [] = List·getD-append F O [] k l in
+          let b = body-regular R starts depth o k d l in
+          inl (
+            subst (Regular R starts depth) (sym e) (regular-is R starts depth (getD F k []) .0 (getD-in F k [] l)),
+            ap (λ (x : Body). x .orphan) b,
+            ap (λ (x : Body). x .closing) b ∙ ap (closes R) (sym e),
+          )
+      go (no l) =
+          let e : length F + (k - length F) ≡ k = omega arith in
+          subst (λ n. Kind (getD (F ++ O) n []) (getD (bodies R starts depth o) n d)) e (late (k - length F) (omega (arith, length-append F O)))
+
+  closing-is : (p : List ℕ) (b : Body) → Kind p b → T (b .closing) ↔ Closing R starts depth o p
+  closing-is p b (inl r) = (
+    (λ t. inl (r .0, subst T (r .2) t)),
+    ⊎-elim (λ c. subst T (sym (r .2)) (c .1)) (λ c. absurd (regular-or-orphan R starts depth o p (r .0) (c .0))),
+  )
+  closing-is p b (inr r) = (
+    (λ t. inr (r .0, subst T (r .2) t)),
+    ⊎-elim (λ c. absurd (regular-or-orphan R starts depth o p (c .0) (r .0))) (λ c. subst T (sym (r .2)) (c .1)),
+  )
+
+  orphan-is : (p : List ℕ) (b : Body) → Kind p b → T (b .orphan) ↔ OrphanNode R starts depth o p
+  orphan-is p b (inl r) = ((λ t. absurd (subst T (r .1) t)), (λ n. absurd (regular-or-orphan R starts depth o p (r .0) n)))
+  orphan-is p b (inr r) = ((λ t. r .0), (λ n. subst T (sym (r .1)) tt))
+
+  -- the k-th body is that of the k-th node
+  pub body-of : (k : ℕ) (d : Body) → 1 ≤ k → k ≤ length (nodes R starts depth o)
+      → BodyOf R starts depth o (nodes R starts depth o) (nodeAt (nodes R starts depth o) k) (getD (bodies R starts depth o) (k - 1) d)
+  body-of k d low high =
+      let t = kind (k - 1) d (omega arith) in
+      let p : List ℕ = nodeAt (nodes R starts depth o) k in
+      let b : Body = getD (bodies R starts depth o) (k - 1) d in
+      record {
+        numeral = body-numeral R starts depth o k low high d;
+        row = body-row R starts depth o k low high d;
+        size = body-size R starts depth o k low high d;
+        parent = body-parent R starts depth o k low high d;
+        root = body-root R starts depth o k low high d;
+        level = body-level R starts depth o k low high d;
+        closing = closing-is p b t;
+        orphan = orphan-is p b t;
+      }
+
+  -- and is what the words of an index say
+  module _ {s : List ℕ} (h : Holds s (bodies R starts depth o)) (few : length R ≤ 1024) (k : ℕ) (low : 1 ≤ k) (high : k ≤ length (nodes R starts depth o)) where
+    pub body-here : (d : Body) → bodyOf s k ≡ getD (bodies R starts depth o) (k - 1) d
+    body-here d =
+        let l = bodies-length R starts depth o in
+        let f = level-fits R starts depth o few (getD (bodies R starts depth o) (k - 1) d) (getD-in (bodies R starts depth o) (k - 1) d (omega arith)) in
+        body-read h k d low (omega arith) (omega arith)
+
+    pub read-of : BodyOf R starts depth o (nodes R starts depth o) (nodeAt (nodes R starts depth o) k) (bodyOf s k)
+    read-of = subst (BodyOf R starts depth o (nodes R starts depth o) (nodeAt (nodes R starts depth o) k)) (sym (body-here (bodyOf s k))) (body-of k (bodyOf s k) low high)

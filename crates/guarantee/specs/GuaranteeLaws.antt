@@ -1,0 +1,152 @@
+-- Demand 3 holds of every list of calls. Assumes nothing.
+use mathlib.Core.Path.{_≡_, refl, sym, ap, subst, _∙_}
+use mathlib.Core.Bool.{Bool, true, false, cond, not}
+use mathlib.Core.List.{List, map}
+use Prim.Native.Nat.{ℕ, _+_, _*_, _≤_, _<_}
+use native.Mathlib.Omega.{arith}
+use lib.Dec.{eqb, ltb}
+use lib.IntN.{ℤ, pos}
+use lib.ListN.{length, replicate, length-take}
+use borrow.Author.Tests.{eq-eqb, ne-eqb, ltb-false}
+use Rattle.lists.specs.Choice.{or-no}
+use Rattle.lists.specs.Members.{_∈_, Increasing, increasing-filter, numbers, numbers-rising}
+use Rattle.lists.specs.Stores.{front}
+use Rattle.board.specs.declared.Row.{Row}
+use Rattle.board.specs.declared.Board.{Board}
+use Rattle.board.specs.Edits.{emptyOf, rowsOf, soundOf}
+use Rattle.history.specs.declared.Call.{Call}
+use Rattle.history.specs.Calls.{final}
+use Rattle.history.specs.Simulation.{simulation, final-rows, final-sound, final-valid}
+use Rattle.options.specs.declared.Depth.{Depth}
+use Rattle.options.specs.Options.{orphanOf}
+use Rattle.image.specs.Layout.{imageWords}
+use Rattle.image.specs.ImageLaws.{Holds, holds-front, bodies-read}
+use Rattle.paths.specs.Forest.{memb}
+use Rattle.paths.specs.Paths.{last, Orphan}
+use Rattle.paths.specs.Nodes.{nodes}
+use Rattle.paths.specs.Bodies.{runningTotals, bodies, leftRows, leftOf}
+use Rattle.paths.specs.Refusals.{orphanChoice, refusalOf}
+use Rattle.paths.specs.NodeLaws.{nodes-are}
+use Rattle.paths.specs.BodyLaws.{bodies-length, left-is}
+use Rattle.paths.specs.RefusalLaws.{accepted}
+use Rattle.paths.specs.Bounds.{level-fits}
+use Rattle.navigate.specs.Navigate.{descendantsAnswer, descendantsOut}
+use Rattle.sums.specs.Sums.{subtreeAnswer}
+use Rattle.request.specs.declared.Built.{Built}
+use Rattle.request.specs.Build.{startRule, buildRefusal, builtOf, indexAfter, totalsAfter}
+use Rattle.guarantee.specs.Guarantee.{BuildRefusal, Accepted, Refused, Descendants, Sum, Fits, Build, Guarantee}
+use Rattle.guarantee.specs.BodyLaws.{node-list, read-of}
+use Rattle.guarantee.specs.SentenceLaws.{first-sentence}
+use Rattle.guarantee.specs.MinutesLaws.{RowsFit, rows-fit}
+use Rattle.guarantee.specs.NavigationLaws.{zeros-descendants, zeros-sum, count-here, descendants-here, sum-here}
+
+-- ---- a build over rows, of a refusal q
+
+module _ (R : List Row) (few : length R ≤ 1024) (code : ℕ) (depth : Depth) (starts : Row → Bool) (index : List ℕ) (totals : List ℤ) where
+  abbrev o : Orphan
+  o = orphanChoice (orphanOf code)
+
+  abbrev W : List (List ℕ)
+  W = nodes R starts depth o
+
+  -- the answer and what is left, `done` where the build is accepted
+  abbrev answerOf : ℕ → Bool → Built
+  answerOf q done = record { refusal = q; nodes = cond done (length W) 0; left = cond done (leftOf R starts depth o) 0 }
+
+  abbrev indexOf : Bool → List ℕ
+  indexOf done = cond done (front (imageWords (bodies R starts depth o)) index) (replicate (length index) 0)
+
+  abbrev totalsOf : Bool → List ℤ
+  totalsOf done = cond done (front (runningTotals R W) totals) (replicate (length totals) (pos 0))
+
+  -- none of the sentences applies, so the nodes are few and the totals long enough
+  record Room : Type 0 where
+    small : length W ≤ 65535
+    long : length W + 1 ≤ length totals
+
+  room : refusalOf R code depth starts (length index) (length totals) ≡ 0 → Room
+  room e =
+      let l = bodies-length R starts depth o in
+      let n = length (bodies R starts depth o) in
+      let a = or-no (ltb 65535 n) _ (accepted R code depth starts (length index) (length totals) e .sentence9) in
+      let b = or-no (ltb (length index) (8 + 6 * n)) _ (a .1) in
+      record { small = omega (arith, ltb-false 65535 n (a .0)); long = omega (arith, ltb-false (length totals) (n + 1) (b .1)) }
+
+  zeroed : (q : ℕ) → Refused (answerOf q false) index (indexOf false) totals (totalsOf false)
+  zeroed q = record {
+    n = refl;
+    left = refl;
+    zero-index = refl;
+    zero-totals = refl;
+    descendants = zeros-descendants (length index);
+    sums = zeros-sum (length index) (replicate (length totals) (pos 0));
+  }
+
+  left-increasing : Increasing _<_ (leftRows R starts depth o)
+  unfolding leftRows
+  left-increasing = increasing-filter _<_ (λ x. not (memb x (map last W))) (numbers 1 (length R)) (numbers-rising 1 (length R))
+
+  left-length : leftOf R starts depth o ≡ length (leftRows R starts depth o)
+  unfolding leftOf
+  left-length = refl
+
+  held : Holds (indexOf true) (bodies R starts depth o)
+  held = holds-front (bodies R starts depth o) index
+
+  written : (q : ℕ) → Room → Accepted R starts depth o W (answerOf q true) index (indexOf true) totals (totalsOf true)
+  written q r = record {
+    n = refl;
+    count = count-here R starts depth o held few (r .small);
+    bodies = read-of R starts depth o held few;
+    image = ap (λ l. front (imageWords l) index) (sym (bodies-read held (λ b m. omega (arith, level-fits R starts depth o few b m))));
+    running = refl;
+    leftRows = leftRows R starts depth o;
+    left-rising = left-increasing;
+    left-is = λ x. (
+      (λ m. let u = left-is R starts depth o x .0 m in (u .0, (λ p k. u .1 p (nodes-are R starts depth o p .0 k)))),
+      (λ u. left-is R starts depth o x .1 (u .0, (λ p k. u .1 p (nodes-are R starts depth o p .1 k)))),
+    );
+    left-count = left-length;
+  }
+
+  pub build-of : (fits : Type 0) → (fits → RowsFit R) → (q : ℕ) → q ≡ refusalOf R code depth starts (length index) (length totals)
+      → Build R fits code depth starts (answerOf q (eqb q 0)) index (indexOf (eqb q 0)) totals (totalsOf (eqb q 0))
+  build-of fits f q e = record {
+    W = W;
+    nodes = node-list R starts depth o;
+    refusal = subst (BuildRefusal R code depth starts W (length index) (length totals)) (sym e) (first-sentence R code depth starts (length index) (length totals));
+    refused = λ n. subst (λ t. Refused (answerOf q t) index (indexOf t) totals (totalsOf t)) (sym (ne-eqb q 0 n)) (zeroed q);
+    accepted = λ z. subst (λ t. Accepted R starts depth o W (answerOf q t) index (indexOf t) totals (totalsOf t)) (sym (eq-eqb q 0 z)) (written q (room (sym e ∙ z)));
+    descendants = λ z. let r = room (sym e ∙ z) in
+        subst (λ t. (rank : ℕ) (lower upper : ℤ) (out : List ℕ) → Descendants W rank lower upper out (descendantsAnswer (indexOf t) rank lower upper out) (descendantsOut (indexOf t) rank lower upper out)) (sym (eq-eqb q 0 z))
+        (descendants-here R starts depth o held few (r .small));
+    sums = λ z g. let r = room (sym e ∙ z) in
+        subst (λ t. (rank : ℕ) → Sum R W rank (subtreeAnswer (indexOf t) (totalsOf t) rank)) (sym (eq-eqb q 0 z))
+        (sum-here R starts depth o held few (r .small) totals (r .long) (f g));
+  }
+
+-- ---- a build on a sound board
+
+build-on : (b : Board) → soundOf b ≡ true → length (rowsOf b) ≤ 1024 → (fits : Type 0) → (fits → RowsFit (rowsOf b))
+    → (code : ℕ) (depth : Depth) (starts : Row → Bool) (index : List ℕ) (totals : List ℤ)
+    → Build (rowsOf b) fits code depth starts (builtOf b code depth starts (length index) (length totals)) index (indexAfter b code depth starts index (length totals)) totals (totalsAfter b code depth starts (length index) totals)
+unfolding buildRefusal builtOf indexAfter totalsAfter
+build-on b sound few fits f code depth starts index totals =
+    build-of (rowsOf b) few code depth starts index totals fits f (buildRefusal b code depth starts (length index) (length totals))
+    (ap (λ t. cond t (refusalOf (rowsOf b) code depth starts (length index) (length totals)) 1) sound)
+
+-- ---- every list of calls
+
+final-few : (cs : List Call) → length (rowsOf (final emptyOf cs)) ≤ 1024
+final-few cs = let v = final-valid cs in omega (arith, length-take (final emptyOf cs .count) (final emptyOf cs .rows))
+
+pub guarantee : (cs : List Call) → Guarantee cs
+guarantee cs = record {
+  edits = simulation cs;
+  build = λ code depth rule list index totals.
+      let b : Board = final emptyOf cs in
+      let s : Row → Bool = startRule rule list in
+      subst (λ R. Build R ((c : Call) → c ∈ cs → Fits c) code depth s (builtOf b code depth s (length index) (length totals)) index (indexAfter b code depth s index (length totals)) totals (totalsAfter b code depth s (length index) totals))
+      (final-rows cs)
+      (build-on b (final-sound cs) (final-few cs) ((c : Call) → c ∈ cs → Fits c) (λ g. subst RowsFit (sym (final-rows cs)) (rows-fit cs g)) code depth s index totals);
+}

@@ -1,0 +1,92 @@
+-- Where the minutes of all calls are i32, so are those of all rows that the plain machine ever holds. Assumes nothing.
+use mathlib.Core.Path.{_≡_, refl, sym, subst}
+use mathlib.Core.Logic.{_⊎_, inl, inr, ⊎-elim}
+use mathlib.Core.Bool.{Bool, true, false, cond}
+use mathlib.Core.List.{List, [], _∷_, _++_}
+use Prim.Native.Nat.{ℕ, zero, suc, _-_, _<_}
+use native.Mathlib.Omega.{arith}
+use lib.Dec.{ltb, eqb, leb}
+use lib.IntN.{ℤ, pos, negsuc}
+use lib.Signed.{mag}
+use lib.ListN.{length, getD, set, take, drop}
+use borrow.Author.Tests.{ltb-false}
+use Rattle.lists.specs.Choice.{or-no}
+use Rattle.lists.specs.Members.{_∈_, append-out, take-in}
+use Rattle.lists.specs.Moves.{without}
+use Rattle.board.specs.declared.Row.{Row}
+use Rattle.board.specs.Journal.{blank}
+use Rattle.board.specs.Edits.{noRow, remarked}
+use Rattle.history.specs.declared.Call.{Call}
+use Rattle.history.specs.declared.Call.the-variants.{Add, Withdraw, Remark, Undo}
+use Rattle.history.specs.Machine.{Machine, Answer, gives, changes, goesBack, answer, after, start}
+use Rattle.sums.specs.Sums.{leaves32}
+use Rattle.guarantee.specs.Guarantee.{Fits}
+
+minutes-small : (z : ℤ) → leaves32 z ≡ false → mag z < 2147483648
+unfolding leaves32
+minutes-small (pos n) e = omega (arith, ltb-false 2147483647 n (or-no (ltb 2147483647 n) _ e .0))
+minutes-small (negsuc n) e = omega (arith, ltb-false 2147483647 n (or-no false (ltb 2147483647 n) e .1))
+
+drop-in : {A : Type 0} (k : ℕ) (l : List A) (x : A) → x ∈ drop k l → x ∈ l
+drop-in zero l x m = m
+drop-in (suc k) [] x m = absurd m
+drop-in (suc k) (y ∷ l) x m = inr (drop-in k l x m)
+
+set-in : {A : Type 0} (l : List A) (i : ℕ) (v x : A) → x ∈ set l i v → (x ≡ v) ⊎ (x ∈ l)
+set-in [] i v x m = absurd m
+set-in (y ∷ l) zero v x (inl e) = inl e
+set-in (y ∷ l) zero v x (inr m) = inr (inr m)
+set-in (y ∷ l) (suc i) v x (inl e) = inr (inl e)
+set-in (y ∷ l) (suc i) v x (inr m) = ⊎-elim (λ e. inl e) (λ k. inr (inr k)) (set-in l i v x m)
+
+abbrev pub RowsFit : List Row → Type 0
+RowsFit R = (r : Row) → r ∈ R → mag (r .minutes) < 2147483648
+
+abbrev MachineFits : Machine → Type 0
+MachineFits m = RowsFit (m .rows) × ((l : List Row) → l ∈ m .earlier → RowsFit l)
+
+either-fits : (t : Bool) (a b : Answer) → MachineFits (a .machine) → MachineFits (b .machine) → MachineFits (cond t a b .machine)
+either-fits true a b h k = h
+either-fits false a b h k = k
+
+changes-fits : (m : Machine) (rows : List Row) → MachineFits m → RowsFit rows → MachineFits (changes m rows .machine)
+changes-fits m rows h k = (k, (λ l i. ⊎-elim (λ e. subst RowsFit (sym e) (h .0)) (λ j. h .1 l j) (take-in 256 (m .rows ∷ m .earlier) l i)))
+
+back-fits : (m : Machine) (K : List (List Row)) → MachineFits m → ((l : List Row) → l ∈ K → RowsFit l) → MachineFits (goesBack m K .machine)
+back-fits m [] h k = h
+back-fits m (rows ∷ earlier) h k = (k rows (inl refl), (λ l i. k l (inr i)))
+
+without-fits : (R : List Row) (k : ℕ) → RowsFit R → RowsFit (without R k)
+unfolding without
+without-fits R k h r i = ⊎-elim (λ j. h r (take-in k R r j)) (λ j. h r (drop-in (suc k) R r j)) (append-out (take k R) (drop (suc k) R) r i)
+
+step-fits : (m : Machine) (c : Call) → MachineFits m → Fits c → MachineFits (answer m c .machine)
+step-fits m (Add r) h f =
+    either-fits (eqb (r .numeral) 0) (gives 2 m) _ h
+    (either-fits (leb 1024 (length (m .rows))) (gives 3 m) (changes m (m .rows ++ (r ∷ []))) h (changes-fits m (m .rows ++ (r ∷ [])) h added))
+  where
+    added : RowsFit (m .rows ++ (r ∷ []))
+    added x i =
+        ⊎-elim (λ j. h .0 x j) (⊎-elim (λ e. subst (λ (y : Row). mag (y .minutes) < 2147483648) (sym e) (minutes-small (r .minutes) f)) (λ j. absurd j))
+        (append-out (m .rows) (r ∷ []) x i)
+step-fits m (Withdraw k) h f =
+    either-fits (noRow (length (m .rows)) k) (gives 4 m) (changes m (without (m .rows) (k - 1))) h
+    (changes-fits m (without (m .rows) (k - 1)) h (without-fits (m .rows) (k - 1) (h .0)))
+step-fits m (Remark k minutes) h f =
+    either-fits (noRow (length (m .rows)) k) (gives 4 m) (changes m (set (m .rows) (k - 1) new)) h (changes-fits m (set (m .rows) (k - 1) new) h marked)
+  where
+    new : Row
+    new = remarked (getD (m .rows) (k - 1) blank) minutes
+
+    marked : RowsFit (set (m .rows) (k - 1) new)
+    marked x i =
+        ⊎-elim (λ e. subst (λ (y : Row). mag (y .minutes) < 2147483648) (sym e) (minutes-small minutes f)) (λ j. h .0 x j) (set-in (m .rows) (k - 1) new x i)
+step-fits m Undo h f = back-fits m (m .earlier) h (h .1)
+
+after-fits : (cs : List Call) (m : Machine) → MachineFits m → ((c : Call) → c ∈ cs → Fits c) → MachineFits (after m cs)
+after-fits [] m h f = h
+after-fits (c ∷ cs) m h f = after-fits cs (answer m c .machine) (step-fits m c h (f c (inl refl))) (λ d i. f d (inr i))
+
+-- the rows R after the list
+pub rows-fit : (cs : List Call) → ((c : Call) → c ∈ cs → Fits c) → RowsFit (after start cs .rows)
+rows-fit cs f = after-fits cs start ((λ r i. absurd i), (λ l i. absurd i)) f .0
