@@ -2,21 +2,21 @@
 use mathlib.Core.Path.{_≡_, refl, sym, ap, _∙_}
 use Prim.Native.Nat.{ℕ, _+_, _-_, _≤_, _<_}
 use native.Mathlib.Omega.{arith}
-use mathlib.Core.Bool.{Bool, true, false, _&&_, false≢true}
+use mathlib.Core.Bool.{Bool, true, false, cond, not, _&&_, false≢true}
 use mathlib.Core.List.{List, [], _∷_, _++_}
 use lib.ListN.{length, take, drop, set}
 use lib.Seq.{length-take-le}
 use lib.Dec.{leb, ltb, eqb}
-use borrow.Author.Tests.{lt-ltb, le-ltb, eq-eqb, ne-eqb, leb-true, ltb-true}
-use Rattle.lists.specs.Choice.{and-yes}
+use borrow.Author.Tests.{not-false, leb-false, ltb-false, eqb-false, lt-ltb, le-ltb, eq-eqb, ne-eqb, leb-true, ltb-true}
+use Rattle.lists.specs.Choice.{and-yes, or-no, cond-none}
 use Rattle.lists.specs.Stores.{front}
-use Rattle.lists.specs.Moves.{closing, opened, without, inserted, length-inserted, length-more, front-more, length-newest, front-newest, length-without, front-without, length-one, front-one, length-in, front-inserted, front-fewer}
+use Rattle.lists.specs.Moves.{closing, opened, without, inserted, length-inserted, length-more, front-more, length-newest, length-without, front-without, length-one, front-one, length-in, front-inserted, front-fewer}
 use Rattle.board.specs.declared.Row.{Row}
 use Rattle.board.specs.declared.Entry.{Entry}
 use Rattle.board.specs.declared.Board.{Board}
 use Rattle.board.specs.declared.Edited.{Edited}
-use Rattle.board.specs.Journal.{allNumbered, noEntry, isThere, undone, undoable, pushed}
-use Rattle.board.specs.Edits.{rowsOf, entriesOf, newestOf, withRows, withEntries, withoutNewest, soundOf}
+use Rattle.board.specs.Journal.{allNumbered, isThere, undone, undoable, pushed}
+use Rattle.board.specs.Edits.{rowsOf, entriesOf, newestOf, withRows, withEntries, withoutNewest, soundOf, refused, noRow, addRefusal, rowRefusal, undoRefusal}
 use Rattle.board.specs.Laws.{sound-count, sound-newest}
 
 -- b with other rows or entries, from the equations of its fields
@@ -39,19 +39,45 @@ keep-room b e l h =
     rw t (entries-are b (entriesOf b ++ (e ∷ [])) (b .kept + 1) (set (b .journal) (b .kept) e)
     (sym (length-more (b .journal) (b .kept) e (omega arith))) (front-more (b .journal) (b .kept) e (omega arith)))
 
-pub keep-full : (b : Board) (e : Entry) (p : List Entry) → length (b .journal) ≡ 256 → b .kept ≡ 256 → p ≡ closing (b .journal) 0 255
-    → _≡_ {A = Board} (record { count = b .count; rows = b .rows; kept = b .kept; journal = set p 255 e })
-    (withEntries b (pushed (entriesOf b) e))
+pub keep-full : (b : Board) (e : Entry) (p : List Entry) → length (b .journal) ≡ 256 → b .kept ≡ 256 → p ≡ front (drop 1 (take 256 (b .journal)) ++ (e ∷ [])) (b .journal)
+    → _≡_ {A = Board} (record { count = b .count; rows = b .rows; kept = b .kept; journal = p }) (withEntries b (pushed (entriesOf b) e))
 unfolding pushed
 keep-full b e p l h q =
     let t : ltb (length (entriesOf b)) 256 ≡ false = le-ltb (length (entriesOf b)) 256 (rw (length-take-le (b .kept) (b .journal) (omega arith)) (omega arith)) in
-    rw t (entries-are b (drop 1 (entriesOf b) ++ (e ∷ [])) (b .kept) (set p 255 e)
-    (rw h (sym (length-newest (b .journal) e l))) (rw (h, q) (front-newest (b .journal) e noEntry l)))
+    rw t (entries-are b (drop 1 (entriesOf b) ++ (e ∷ [])) (b .kept) p (rw h (sym (length-newest (b .journal) e l))) (rw h q))
+
+-- ---- the number that refuses
+
+none-sound : (b : Board) (y : ℕ) → cond (not (soundOf b)) 1 y ≡ 0 → (soundOf b ≡ true) × (y ≡ 0)
+none-sound b y e = let x = cond-none (not (soundOf b)) 1 y (omega arith) e in (not-false (soundOf b) (x .0), x .1)
+
+pub add-none : (b : Board) (r : Row) → addRefusal b r ≡ 0 → (soundOf b ≡ true) × (b .count < 1024)
+unfolding addRefusal
+add-none b r e =
+    let x = none-sound b (cond (eqb (r .numeral) 0) 2 (cond (leb 1024 (b .count)) 3 0)) e in
+    let y = cond-none (eqb (r .numeral) 0) 2 (cond (leb 1024 (b .count)) 3 0) (omega arith) (x .1) in
+    (x .0, leb-false 1024 (b .count) (cond-none (leb 1024 (b .count)) 3 0 (omega arith) (y .1) .0))
+
+pub row-none : (b : Board) (k : ℕ) → rowRefusal b k ≡ 0 → (soundOf b ≡ true) × (1 ≤ k) × (k ≤ b .count)
+unfolding rowRefusal
+row-none b k e =
+    let x = none-sound b (cond (noRow (b .count) k) 4 0) e in
+    let y = or-no (eqb k 0) (ltb (b .count) k) (cond-none (noRow (b .count) k) 4 0 (omega arith) (x .1) .0) in
+    (x .0, omega (arith, eqb-false k 0 (y .0)), ltb-false (b .count) k (y .1))
+
+pub undo-none : (b : Board) → undoRefusal b ≡ 0 → (soundOf b ≡ true) × (eqb (b .kept) 0 ≡ false)
+unfolding undoRefusal
+undo-none b e =
+    let x = none-sound b (cond (eqb (b .kept) 0) 5 0) e in
+    (x .0, cond-none (eqb (b .kept) 0) 5 0 (omega arith) (x .1) .0)
+
+pub refused-by : (n q : ℕ) (b : Board) (y : Edited) → n ≡ q → (n ≡ 0 → ⊥) → _≡_ {A = Edited} (record { board = b; refusal = n }) (cond (eqb q 0) y (refused q b))
+refused-by n q b y e h = rw (ne-eqb q 0 (λ z. h (e ∙ z))) (λ i. record { board = b; refusal = e i })
+
+pub accepted-by : (q : ℕ) (x y : Board) (z : Edited) → q ≡ 0 → x ≡ y → _≡_ {A = Edited} (record { board = x; refusal = 0 }) (cond (eqb q 0) (record { board = y; refusal = 0 }) z)
+accepted-by q x y z e p = rw (eq-eqb q 0 e) (λ i. record { board = p i; refusal = 0 })
 
 -- ---- the accepted calls
-
-pub done : {x y : Board} → x ≡ y → _≡_ {A = Edited} (record { refusal = 0; board = x }) (record { refusal = 0; board = y })
-done p = λ i. record { refusal = 0; board = p i }
 
 -- kept is the board after the journal's push: the code stores into its rows
 module _ (b kept : Board) (J : List Entry) (q : kept ≡ withEntries b J) (l : length (b .rows) ≡ 1024) where

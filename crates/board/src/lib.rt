@@ -1,11 +1,10 @@
 // A parts list by value: its rows and the journal of its edits. Row numbers are counted from 1, places from 0.
 ghost use mathlib.Core.Path.{_≡_};
-ghost use Prim.Native.Nat.{_≤_, _<_};
-ghost use lib.Seq.{slice};
-ghost use Rattle.lists.specs.Moves.{closing, opened};
-ghost use Rattle.board.specs.Journal.{allNumbered, pushed};
+ghost use mathlib.Core.List.{[], _∷_, _++_};
+ghost use lib.ListN.{take, drop};
+ghost use Rattle.lists.specs.Stores.{front};
 ghost use Rattle.board.specs.Tests.{canUndo};
-ghost use Rattle.board.specs.Edits.{entriesOf, withEntries, soundOf, addOf, withdrawOf, remarkOf, undoOf, emptyOf};
+ghost use Rattle.board.specs.Edits.{emptyOf, soundOf, addRefusal, addOf, rowRefusal, withdrawOf, remarkOf, undoRefusal, undoOf};
 
 #[repr(C)]
 pub struct Row {
@@ -32,53 +31,8 @@ pub struct Board {
 
 #[repr(C)]
 pub struct Edited {
-    pub refusal: u32,
     pub board: Board,
-}
-
-// Rows k + 1 to last move up by one place.
-fn close(a: [Row; 1024], k: usize, last: usize) -> [Row; 1024]
-    requires { ⌜ (k ≤ last) × (last < 1024) ⌝ }
-    ensures { λ r. ⌜ r ≡ closing a k last ⌝ }
-{
-    let mut rows = a;
-    let mut i = k;
-    while i < last {
-        rows[i] = rows[i + 1];
-        i += 1;
-    }
-    rows
-}
-
-// Rows k to n - 1 move down by one place, and row goes to place k.
-fn open(a: [Row; 1024], k: usize, n: usize, row: Row) -> [Row; 1024]
-    requires { ⌜ (k ≤ n) × (n < 1024) ⌝ }
-    ensures { λ r. ⌜ r ≡ opened a k n row ⌝ }
-{
-    let mut rows = a;
-    let mut i = n;
-    while k < i {
-        rows[i] = rows[i - 1];
-        i -= 1;
-    }
-    rows[k] = row;
-    rows
-}
-
-// The first n rows have a numeral of 1 or more.
-fn numbered(a: [Row; 1024], n: usize) -> bool
-    requires { ⌜ n ≤ 1024 ⌝ }
-    ensures { λ r. ⌜ r ≡ allNumbered (slice 0 n a) ⌝ }
-{
-    let mut i = 0;
-    while i < n {
-        let r = a[i];
-        if r.numeral == 0 {
-            return false;
-        }
-        i += 1;
-    }
-    true
+    pub refusal: u32,
 }
 
 // Whether an entry can be undone on n rows that are numbered.
@@ -106,9 +60,9 @@ fn can_undo(e: Entry, n: usize) -> bool
     false
 }
 
-// The journal's entries 1 to 255 move up by one place.
-fn drop_oldest(a: [Entry; 256]) -> [Entry; 256]
-    ensures { λ r. ⌜ r ≡ closing a 0 255 ⌝ }
+// A full journal without its oldest entry, and with e as its newest.
+fn renew(a: [Entry; 256], e: Entry) -> [Entry; 256]
+    ensures { λ r. ⌜ r ≡ front (drop 1 (take 256 a) ++ (e ∷ [])) a ⌝ }
 {
     let mut entries = a;
     let mut i = 0;
@@ -116,9 +70,11 @@ fn drop_oldest(a: [Entry; 256]) -> [Entry; 256]
         entries[i] = entries[i + 1];
         i += 1;
     }
+    entries[255] = e;
     entries
 }
 
+// Three functions below store an entry in the same few lines: a function of its own would copy the board twice more.
 impl Board {
     pub const EMPTY: Board = Board {
         count: 0,
@@ -147,6 +103,7 @@ impl Board {
         Board::EMPTY
     }
 
+    // Whether the board is one that edits and builds take.
     pub fn sound(self) -> bool
         ensures { λ r. ⌜ r ≡ soundOf self ⌝ }
     {
@@ -158,9 +115,12 @@ impl Board {
         if 256 < kept {
             return false;
         }
-        let rows = self.rows;
-        if !numbered(rows, count) {
-            return false;
+        let mut i: usize = 0;
+        while i < count {
+            if self.rows[i].numeral == 0 {
+                return false;
+            }
+            i += 1;
         }
         if kept == 0 {
             return true;
@@ -170,186 +130,198 @@ impl Board {
         can_undo(e, count)
     }
 
-    // The board with one entry more.
-    fn keep(self, e: Entry) -> Board
-        requires { ⌜ self .kept ≤ 256 ⌝ }
-        ensures { λ r. ⌜ r ≡ withEntries self (pushed (entriesOf self) e) ⌝ }
-    {
-        let mut next = self;
-        let kept = self.kept;
-        if kept < 256 {
-            next.journal[kept] = e;
-            next.kept = kept + 1;
-            return next;
-        }
-        let journal = self.journal;
-        let mut moved = drop_oldest(journal);
-        moved[255] = e;
-        next.journal = moved;
-        next
-    }
-
-    pub fn add(self, row: Row) -> Edited
-        ensures { λ r. ⌜ r ≡ addOf self row ⌝ }
+    fn add_refusal(self, row: Row) -> u32
+        ensures { λ r. ⌜ r ≡ addRefusal self row ⌝ }
     {
         if !self.sound() {
-            return Edited {
-                refusal: 1,
-                board: self,
-            };
+            return 1;
         }
         if row.numeral == 0 {
+            return 2;
+        }
+        if 1024 <= self.count {
+            return 3;
+        }
+        0
+    }
+
+    // Puts the row at the end.
+    pub fn add(mut self, row: Row) -> Edited
+        ensures { λ r. ⌜ r ≡ addOf self row ⌝ }
+    {
+        let refusal = self.add_refusal(row);
+        if refusal != 0 {
             return Edited {
-                refusal: 2,
                 board: self,
+                refusal: refusal,
             };
         }
         let count = self.count;
-        if 1024 <= count {
-            return Edited {
-                refusal: 3,
-                board: self,
-            };
-        }
-        let mut next = self.keep(Entry {
+        let entry = Entry {
             kind: 0,
             at: count,
             row: row,
-        });
-        next.rows[count] = row;
-        next.count = count + 1;
+        };
+        let kept = self.kept;
+        if kept < 256 {
+            self.journal[kept] = entry;
+            self.kept = kept + 1;
+        } else {
+            let journal = self.journal;
+            let renewed = renew(journal, entry);
+            self.journal = renewed;
+        }
+        self.rows[count] = row;
+        self.count = count + 1;
         Edited {
+            board: self,
             refusal: 0,
-            board: next,
         }
     }
 
-    pub fn withdraw(self, k: usize) -> Edited
-        ensures { λ r. ⌜ r ≡ withdrawOf self k ⌝ }
+    fn row_refusal(self, k: usize) -> u32
+        ensures { λ r. ⌜ r ≡ rowRefusal self k ⌝ }
     {
         if !self.sound() {
-            return Edited {
-                refusal: 1,
-                board: self,
-            };
+            return 1;
         }
         if k == 0 {
-            return Edited {
-                refusal: 4,
-                board: self,
-            };
+            return 4;
         }
-        let count = self.count;
-        if count < k {
+        if self.count < k {
+            return 4;
+        }
+        0
+    }
+
+    // Takes out row number k; later rows move up by one.
+    pub fn withdraw(mut self, k: usize) -> Edited
+        ensures { λ r. ⌜ r ≡ withdrawOf self k ⌝ }
+    {
+        let refusal = self.row_refusal(k);
+        if refusal != 0 {
             return Edited {
-                refusal: 4,
                 board: self,
+                refusal: refusal,
             };
         }
         let at = k - 1;
-        let last = count - 1;
+        let last = self.count - 1;
         let row = self.rows[at];
-        let mut next = self.keep(Entry {
+        let entry = Entry {
             kind: 1,
             at: at,
             row: row,
-        });
-        let rows = self.rows;
-        let moved = close(rows, at, last);
-        next.rows = moved;
-        next.count = last;
+        };
+        let kept = self.kept;
+        if kept < 256 {
+            self.journal[kept] = entry;
+            self.kept = kept + 1;
+        } else {
+            let journal = self.journal;
+            let renewed = renew(journal, entry);
+            self.journal = renewed;
+        }
+        let mut i = at;
+        while i < last {
+            self.rows[i] = self.rows[i + 1];
+            i += 1;
+        }
+        self.count = last;
         Edited {
+            board: self,
             refusal: 0,
-            board: next,
         }
     }
 
-    pub fn remark(self, k: usize, minutes: i32) -> Edited
+    // Gives row number k new minutes.
+    pub fn remark(mut self, k: usize, minutes: i32) -> Edited
         ensures { λ r. ⌜ r ≡ remarkOf self k minutes ⌝ }
     {
-        if !self.sound() {
+        let refusal = self.row_refusal(k);
+        if refusal != 0 {
             return Edited {
-                refusal: 1,
                 board: self,
-            };
-        }
-        if k == 0 {
-            return Edited {
-                refusal: 4,
-                board: self,
-            };
-        }
-        let count = self.count;
-        if count < k {
-            return Edited {
-                refusal: 4,
-                board: self,
+                refusal: refusal,
             };
         }
         let at = k - 1;
         let row = self.rows[at];
-        let mut next = self.keep(Entry {
+        let entry = Entry {
             kind: 2,
             at: at,
             row: row,
-        });
-        next.rows[at] = Row {
+        };
+        let kept = self.kept;
+        if kept < 256 {
+            self.journal[kept] = entry;
+            self.kept = kept + 1;
+        } else {
+            let journal = self.journal;
+            let renewed = renew(journal, entry);
+            self.journal = renewed;
+        }
+        self.rows[at] = Row {
             parent: row.parent,
             numeral: row.numeral,
             order: row.order,
             minutes: minutes,
         };
         Edited {
+            board: self,
             refusal: 0,
-            board: next,
         }
     }
 
-    pub fn undo(self) -> Edited
-        ensures { λ r. ⌜ r ≡ undoOf self ⌝ }
+    fn undo_refusal(self) -> u32
+        ensures { λ r. ⌜ r ≡ undoRefusal self ⌝ }
     {
         if !self.sound() {
+            return 1;
+        }
+        if self.kept == 0 {
+            return 5;
+        }
+        0
+    }
+
+    // Goes back to the rows before the newest kept edit.
+    pub fn undo(mut self) -> Edited
+        ensures { λ r. ⌜ r ≡ undoOf self ⌝ }
+    {
+        let refusal = self.undo_refusal();
+        if refusal != 0 {
             return Edited {
-                refusal: 1,
                 board: self,
+                refusal: refusal,
             };
         }
-        let kept = self.kept;
-        if kept == 0 {
-            return Edited {
-                refusal: 5,
-                board: self,
-            };
-        }
-        let last = kept - 1;
-        let e = self.journal[last];
+        let last = self.kept - 1;
+        let entry = self.journal[last];
         let count = self.count;
-        let mut next = self;
-        next.kept = last;
-        let kind = e.kind;
-        let at = e.at;
-        let row = e.row;
+        self.kept = last;
+        let kind = entry.kind;
+        let at = entry.at;
         if kind == 0 {
-            next.count = count - 1;
+            self.count = count - 1;
             return Edited {
+                board: self,
                 refusal: 0,
-                board: next,
             };
         }
         if kind == 1 {
-            let rows = self.rows;
-            let moved = open(rows, at, count, row);
-            next.rows = moved;
-            next.count = count + 1;
-            return Edited {
-                refusal: 0,
-                board: next,
-            };
+            let mut i = count;
+            while at < i {
+                self.rows[i] = self.rows[i - 1];
+                i -= 1;
+            }
+            self.count = count + 1;
         }
-        next.rows[at] = row;
+        let row = entry.row;
+        self.rows[at] = row;
         Edited {
+            board: self,
             refusal: 0,
-            board: next,
         }
     }
 }

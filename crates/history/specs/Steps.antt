@@ -17,7 +17,7 @@ use Rattle.board.specs.declared.Entry.{Entry}
 use Rattle.board.specs.declared.Board.{Board}
 use Rattle.board.specs.declared.Edited.{Edited}
 use Rattle.board.specs.Journal.{allNumbered, isThere, undone, undoable, pushed, blank, noEntry}
-use Rattle.board.specs.Edits.{rowsOf, entriesOf, newestOf, withRows, withEntries, withoutNewest, soundOf, addOf, withdrawOf, remarkOf, remarked, undoOf, refused, accepted, noRow}
+use Rattle.board.specs.Edits.{rowsOf, entriesOf, newestOf, withRows, withEntries, withoutNewest, soundOf, addRefusal, addOf, rowRefusal, withdrawOf, remarkOf, remarked, undoRefusal, undoOf, refused, accepted, noRow}
 use Rattle.board.specs.Laws.{numbered-append, numbered-take, numbered-drop, numbered-mid}
 use Rattle.history.specs.declared.Call.{Call}
 use Rattle.history.specs.declared.Call.the-variants.{Add, Withdraw, Remark, Undo}
@@ -173,7 +173,7 @@ module _ (b : Board) (v : Valid b) where
     there-add = lt-ltb 0 (length (rowsOf b ++ (r ∷ []))) (omega (arith, length-add))
 
     step-add : (t₂ t₃ : Bool) → eqb (r .numeral) 0 ≡ t₂ → leb 1024 (b .count) ≡ t₃ → Step b (Add r)
-    unfolding addOf entry-add
+    unfolding addOf addRefusal entry-add
     step-add true t₃ q₂ q₃ = step-by b (Add r) (refused 2 b) (simp (valid-sound b v, q₂)) (simp q₂) v
     step-add false true q₂ q₃ = step-by b (Add r) (refused 3 b) (simp (valid-sound b v, q₂, q₃)) (simp (q₂, many b v, q₃)) v
     step-add false false q₂ q₃ =
@@ -257,7 +257,7 @@ module _ (b : Board) (v : Valid b) where
     inside q = omega (arith, eqb-false k 0 (or-no (eqb k 0) (ltb (b .count) k) q .0), ltb-false (b .count) k (or-no (eqb k 0) (ltb (b .count) k) q .1))
 
     step-withdraw : (t : Bool) → noRow (b .count) k ≡ t → Step b (Withdraw k)
-    unfolding withdrawOf entry-withdraw
+    unfolding withdrawOf rowRefusal entry-withdraw
     step-withdraw true q = step-by b (Withdraw k) (refused 4 b) (rw (valid-sound b v, q)) (rw (none-there true q)) v
     step-withdraw false q =
         let i = inside q in
@@ -267,7 +267,7 @@ module _ (b : Board) (v : Valid b) where
         (valid-change b v (entry-withdraw b v (k - 1) i) (without (rowsOf b) (k - 1)) s (well-withdraw b v (k - 1) i) (there-withdraw b v (k - 1) i) (back-withdraw b v (k - 1) i))
 
     step-remark : (m : ℤ) (t : Bool) → noRow (b .count) k ≡ t → Step b (Remark k m)
-    unfolding remarkOf entry-remark new
+    unfolding remarkOf rowRefusal entry-remark new
     step-remark m true q = step-by b (Remark k m) (refused 4 b) (rw (valid-sound b v, q)) (rw (none-there true q)) v
     step-remark m false q =
         let i = inside q in
@@ -309,7 +309,7 @@ module _ (b : Board) (v : Valid b) where
         ∙ ap (λ (r : List Row). gives 0 (record { rows = r; earlier = earlierLists r (reverse (take (b .kept - 1) (b .journal))) })) (sym (take-front u (b .rows)))
 
   step-undo : (t : Bool) → eqb (b .kept) 0 ≡ t → Step b Undo
-  unfolding undoOf
+  unfolding undoOf undoRefusal
   step-undo true q =
       let e : entriesOf b ≡ [] = ap (λ (n : ℕ). take n (b .journal)) (eqb-true (b .kept) 0 q) in
       step-by b Undo (refused 5 b) (simp (valid-sound b v, q)) (ap (λ (J : List Entry). goesBack (stateOf b) (earlierLists (rowsOf b) (reverse J))) e) v

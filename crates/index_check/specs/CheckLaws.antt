@@ -1,9 +1,9 @@
 -- What holds of every slice that the index check accepts: the intervals are nested like a forest's, and parents, levels and intervals agree. Assumes nothing.
-use mathlib.Core.Path.{_≡_, refl, sym, ap, subst, _∙_}
+use mathlib.Core.Path.{_≡_, sym, ap, _∙_}
 use mathlib.Core.Logic.{_⊎_, inl, inr, ⊎-elim}
 use mathlib.Core.Bool.{Bool, true, false, cond, not}
 use mathlib.Core.List.{List}
-use Prim.Native.Nat.{ℕ, zero, suc, _+_, _-_, _≤_, _<_}
+use Prim.Native.Nat.{ℕ, zero, suc, _+_, _≤_, _<_}
 use native.Mathlib.Decide.{ℕ-discrete, decLt}
 use native.Mathlib.Omega.{arith}
 use lib.Dec.{leb, eqb}
@@ -13,8 +13,8 @@ use Rattle.lists.specs.Ranges.{allTo, all-at}
 use Rattle.image.specs.Layout.{nodeCount, sizeAt, parentAt, rootAt, levelAt, badContents}
 use Rattle.image.specs.ImageLaws.{Contents, contents}
 use Rattle.navigate.specs.Navigate.{endOf}
-use Rattle.index_check.specs.IndexCheck.{contains, zerosRight, checkRight, sizeRight, endRight, parentRight, levelRight, rankRight, accepts}
-use Rattle.index_check.specs.RankLaws.{Right, right, contains-yes, contains-out, parent-below, parent-largest, parent-contains}
+use Rattle.index_check.specs.IndexCheck.{contains, zerosRight, checkRight, sizeRight, endRight, levelRight, rootRight, rankRight, accepts}
+use Rattle.index_check.specs.RankLaws.{Right, right, contains-yes, contains-out, parent-below, parent-largest}
 
 module _ (s : List ℕ) where
   -- ---- the words of a right rank, as numbers
@@ -46,6 +46,18 @@ module _ (s : List ℕ) where
   level-of-child k e h =
       let q : eqb (parentAt s k) 0 ≡ false = ne-eqb (parentAt s k) 0 (λ z. omega arith) in
       eqb-true (levelAt s k) (levelAt s (parentAt s k) + 1) (sym (ap (λ (t : Bool). eqb (levelAt s k) (cond t 1 (levelAt s (parentAt s k) + 1))) q) ∙ e)
+
+  pub root-of-root : (k : ℕ) → rootRight s k ≡ true → parentAt s k ≡ 0 → rootAt s k ≡ k
+  unfolding rootRight
+  root-of-root k e z =
+      let q : eqb (parentAt s k) 0 ≡ true = eq-eqb (parentAt s k) 0 z in
+      eqb-true (rootAt s k) k (sym (ap (λ (t : Bool). eqb (rootAt s k) (cond t k (rootAt s (parentAt s k)))) q) ∙ e)
+
+  pub root-of-child : (k : ℕ) → rootRight s k ≡ true → 0 < parentAt s k → rootAt s k ≡ rootAt s (parentAt s k)
+  unfolding rootRight
+  root-of-child k e h =
+      let q : eqb (parentAt s k) 0 ≡ false = ne-eqb (parentAt s k) 0 (λ z. omega arith) in
+      eqb-true (rootAt s k) (rootAt s (parentAt s k)) (sym (ap (λ (t : Bool). eqb (rootAt s k) (cond t k (rootAt s (parentAt s k)))) q) ∙ e)
 
 -- every rank that the interval of b contains, the interval of a contains
 abbrev pub Nested : List ℕ → ℕ → ℕ → Type 0

@@ -1,5 +1,5 @@
--- Navigation on a slice that the index check accepts: no refusal 15, ancestors and descendants agree, the links followed are the level less 1. Assumes nothing.
-use mathlib.Core.Path.{_≡_, refl, sym, ap, subst, _∙_}
+-- Navigation on a slice that the index check accepts: no refusal 15, ancestors and descendants agree, the level counts the links followed, the root rank ends them. Assumes nothing.
+use mathlib.Core.Path.{_≡_, sym, ap, subst, _∙_}
 use mathlib.Core.Logic.{_⊎_, inl, inr, ⊎-elim, _↔_}
 use mathlib.Core.Bool.{Bool, true, false, cond, _&&_}
 use mathlib.Core.List.{List, _∷_}
@@ -7,20 +7,20 @@ use Prim.Native.Nat.{ℕ, zero, suc, _+_, _-_, _≤_, _<_}
 use native.Mathlib.Decide.{ℕ-discrete}
 use native.Mathlib.Omega.{arith}
 use lib.ListN.{length}
-use lib.Dec.{T, ltb, eqb}
-use lib.IntN.{ℤ, pos, negsuc, negℤ, _+ℤ_, _-ℤ_, negℤ-+ℤ, negℤ-negℤ, +ℤ-comm}
-use lib.Signed.{leZ, mag}
+use lib.Dec.{T}
+use lib.IntN.{ℤ, pos, negsuc, negℤ, _+ℤ_, negℤ-+ℤ, negℤ-negℤ, +ℤ-comm}
+use lib.Signed.{mag}
 use borrow.Author.Tests.{eq-eqb, ne-eqb, le-ltb, le-leb}
-use Rattle.lists.specs.Members.{_∈_, filter, filter-in, filter-out, filter-all, numbers, numbers-in, numbers-out}
+use Rattle.lists.specs.Members.{_∈_, filter-in, filter-out, filter-all, numbers, numbers-in, numbers-out}
 use Rattle.lists.specs.Ranges.{limits-negate}
 use Rattle.lists.specs.Signed.{mag-sub}
-use Rattle.image.specs.Layout.{nodeCount, sizeAt, parentAt, levelAt, badContents}
-use Rattle.navigate.specs.Navigate.{badRank, badSpan, endOf, rankRefusal, spanRefusal, within, distance, descendantList}
+use Rattle.image.specs.Layout.{nodeCount, sizeAt, parentAt, rootAt, levelAt}
+use Rattle.navigate.specs.Navigate.{badRank, badSpan, endOf, spanRefusal, within, distance, descendantList}
 use Rattle.navigate.specs.Climb.{chain, badClimb, climbRefusal, ancestorList, ancestorsAnswer}
 use Rattle.navigate.specs.ClimbLaws.{chain-step, chain-done, stuck-step, stuck-done}
 use Rattle.index_check.specs.IndexCheck.{contains, accepts}
-use Rattle.index_check.specs.RankLaws.{contains-yes, contains-out, parent-largest, parent-contains}
-use Rattle.index_check.specs.CheckLaws.{Nested, accepted-good, accepted-rank, accepted-size, accepted-parent, accepted-end, nested-in-parent, level-of-root, level-of-child}
+use Rattle.index_check.specs.RankLaws.{contains-yes, contains-out, parent-largest}
+use Rattle.index_check.specs.CheckLaws.{Nested, accepted-good, accepted-rank, accepted-size, accepted-parent, accepted-end, nested-in-parent, level-of-root, level-of-child, root-of-root, root-of-child}
 
 -- ---- distances
 
@@ -203,3 +203,30 @@ module _ (s : List ℕ) (accepted : accepts s ≡ true) where
   accepted-links k h b lo hi out e =
       ap (λ (t : Bool). cond t (length (chain s k) - 1) 0 + 1) (eq-eqb (ancestorsAnswer s k lo hi out .refusal) 0 e)
       ∙ (omega (arith, accepted-level k h b, ap length (next k h b)))
+
+  -- ---- roots
+
+  chain-root : (f k : ℕ) → k ≤ f → 1 ≤ k → k ≤ nodeCount s → (rootAt s k ∈ chain s k) × (parentAt s (rootAt s k) ≡ 0)
+  chain-root zero k g h b = absurd (omega arith)
+  chain-root (suc f) k g h b = here (ℕ-discrete (parentAt s k) 0) (chain-root f (parentAt s k))
+    where
+      p : parentAt s k < k
+      p = accepted-parent s accepted k h b
+
+      here : Dec (parentAt s k ≡ 0)
+          → (parentAt s k ≤ f → 1 ≤ parentAt s k → parentAt s k ≤ nodeCount s
+          → (rootAt s (parentAt s k) ∈ chain s (parentAt s k)) × (parentAt s (rootAt s (parentAt s k)) ≡ 0))
+          → (rootAt s k ∈ chain s k) × (parentAt s (rootAt s k) ≡ 0)
+      here (yes z) above =
+          let e = root-of-root s k (accepted-rank s accepted k h b .root) z in
+          (subst (λ (l : List ℕ). rootAt s k ∈ l) (sym (next k h b)) (inl e), ap (parentAt s) e ∙ z)
+      here (no z) above =
+          let e = root-of-child s k (accepted-rank s accepted k h b .root) (omega arith) in
+          let up = above (omega (arith, p)) (omega arith) (omega (arith, p)) in (
+            subst (λ (l : List ℕ). rootAt s k ∈ l) (sym (next k h b)) (inr (subst (λ (r : ℕ). r ∈ chain s (parentAt s k)) (sym e) (up .0))),
+            ap (parentAt s) e ∙ up .1,
+          )
+
+  -- the root rank is the rank of the chain that has no parent
+  pub accepted-root : (k : ℕ) → 1 ≤ k → k ≤ nodeCount s → (rootAt s k ∈ chain s k) × (parentAt s (rootAt s k) ≡ 0)
+  accepted-root k h b = chain-root k k (omega arith) h b

@@ -1,5 +1,5 @@
 -- What the conditions on a rank say of its words, and that a climb through parent ranks finds the parent. Assumes nothing.
-use mathlib.Core.Path.{_≡_, refl, sym, ap, _∙_}
+use mathlib.Core.Path.{_≡_, refl, ap, _∙_}
 use mathlib.Core.Bool.{Bool, true, false, cond, _&&_}
 use mathlib.Core.List.{List}
 use Prim.Native.Nat.{ℕ, _+_, _*_, _-_, _≤_, _<_}
@@ -81,6 +81,7 @@ module _ (s : List ℕ) where
   parent-largest r k e a b =
       omega (arith, parent-is k e, largest-above (λ m. contains s m k) (k - 1) r (omega arith) (contains-yes r k (omega arith) b))
 
+  -- the interval of the parent contains the rank
   pub parent-contains : (k : ℕ) → parentRight s k ≡ true → 0 < parentAt s k → k < parentAt s k + sizeAt s (parentAt s k)
   parent-contains k e h =
       let q = parent-is k e in

@@ -1,2 +1,3 @@
 pub mod Walk
 pub mod WalkLaws
+pub mod Meaning

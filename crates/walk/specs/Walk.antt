@@ -10,6 +10,7 @@ use lib.Dec.{ltb, eqb}
 use Rattle.lists.specs.Members.{filter, numbers}
 use Rattle.image.specs.declared.Body.{Body}
 use Rattle.image.specs.Layout.{bodyWords, flat, checked}
+use Rattle.links.specs.Links.{Linked}
 use Rattle.paths.specs.Forest.{memb, children, next}
 use Rattle.paths.specs.Emit.{orElse, emit}
 use Rattle.walk.specs.declared.Met.{Met}
@@ -30,11 +31,6 @@ rowOf R p = getD (R .row) p 0
 pub record Whole (R : Rows) (marks : ℕ) : Type 0 where
   pub rising : (p : ℕ) → p < length (R .child) → p < getD (R .next) p 0
   pub placed : (p : ℕ) → p < length (R .child) → getD (R .cls) p 0 < marks
-
--- the positions from p on, by the links of `next`, where m is the number of positions
-pub data Linked (next : List ℕ) (m : ℕ) : ℕ → List ℕ → Type 0 where
-  end : {p : ℕ} → m ≤ p → Linked next m p []
-  more : {p : ℕ} {ps : List ℕ} → p < m → Linked next m (getD next p 0) ps → Linked next m p (p ∷ ps)
 
 -- the links lead from each row to its children among the rows of the pool, and the classes are those of equal numerals
 pub record Hung (R : Rows) (num par : ℕ → ℕ) (pool : List ℕ) : Type 0 where

@@ -18,10 +18,11 @@ use Rattle.lists.specs.Members.{filter, keep, numbers}
 use Rattle.image.specs.declared.Body.{Body}
 use Rattle.image.specs.Layout.{bodyWords, flat, checked}
 use Rattle.image.specs.ImageLaws.{checked-append, checked-swap, flat-append, length-flat, length-body}
+use Rattle.links.specs.Links.{Linked, end, more}
 use Rattle.paths.specs.Forest.{memb, children, next, unless}
 use Rattle.paths.specs.Emit.{orElse, emit}
 use Rattle.walk.specs.declared.Met.{Met}
-use Rattle.walk.specs.Walk.{Rows, rowOf, Whole, Linked, end, more, Hung, Marked, Clear, closes, opened, nodeBody, rowBody, Put, Walked, NodesWalked, SiblingsWalked, BelowWalked, flagged}
+use Rattle.walk.specs.Walk.{Rows, rowOf, Whole, Hung, Marked, Clear, closes, opened, nodeBody, rowBody, Put, Walked, NodesWalked, SiblingsWalked, BelowWalked, flagged}
 
 -- ---- what a walk leaves
 

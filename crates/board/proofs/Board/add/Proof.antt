@@ -1,67 +1,84 @@
 -- `board::Board::add` meets its contract. Assumes nothing.
 use Prim.Native.Nat.{_-_}
+use native.Mathlib.Omega.{arith}
 use mathlib.Core.Path.{_≡_, _∙_, sym}
-use mathlib.Core.Bool.{true, false}
-use borrow.Author.Tests.{le-leb, lt-leb, eq-eqb, ne-eqb, not-true, not-false}
+use mathlib.Core.Logic.{⊎-elim}
 use lib.ListN.{length}
-use Rattle.board.specs.Edits.{soundOf, addOf}
-use Rattle.lists.specs.Stores.{length-mapped}
-use Rattle.board.specs.Laws.{sound-kept}
-use Rattle.board.proofs.Edits.{done, add-board}
 use borrow.Author.Needs.{needs}
+use Rattle.lists.specs.Stores.{length-mapped}
+use Rattle.board.specs.declared.Entry.{Entry}
+use Rattle.board.specs.Journal.{pushed}
+use Rattle.board.specs.Edits.{entriesOf, withEntries, addRefusal, addOf}
+use Rattle.board.specs.Laws.{sound-kept}
+use Rattle.board.proofs.Edits.{keep-room, keep-full, add-none, refused-by, accepted-by, add-board}
 use Rattle.board.proofs.Board.add.Statement.{statement}
 use Rattle.board.proofs.Board.add.Tie as tie
 
-yes : (c : tie.Else1) → soundOf (c .before .before .args .self) ≡ true
-yes c = sym (c .before .sound .ensures) ∙ not-false (c .before .sound .result) (c .if1 .left)
+-- where nothing refuses
+taken : (c : tie.Else1) → addRefusal (c .before .before .args .t1) (c .before .before .args .row) ≡ 0
+taken c = sym (c .before .add-refusal .ensures) ∙ c .if1 .left
 
-sound-requires : tie.Need-sound-requires
-sound-requires c κs = search needs
+long : (c : tie.Else1) → (length (c .before .before .args .t1 .rows) ≡ 1024) × (length (c .before .before .args .t1 .journal) ≡ 256)
+long c = (search (needs, length-mapped), search (needs, length-mapped))
+
+entry : (c : tie.Else1) → Entry
+entry c = record { kind = 0; at = c .before .before .args .t1 .count; row = c .before .before .args .row }
+
+-- both ways store the entry
+kept : (c : tie.Joined2) → c .if2 .self ≡ withEntries (c .before .before .before .args .t1) (pushed (entriesOf (c .before .before .before .args .t1)) (entry (c .before)))
+unfolding entry
+kept c =
+    let b = c .before .before .before .args .t1 in
+    let s = sound-kept b (add-none b _ (taken (c .before)) .0) in
+    ⊎-elim (λ x. x .1 ∙ keep-room b (entry (c .before)) (long (c .before) .1) (x .0 .taken))
+    (λ x. x .3 ∙ keep-full b (entry (c .before)) (x .2 .result) (long (c .before) .1) (omega (arith, s, x .0 .left)) (x .2 .ensures)) (c .if2 .came)
+
+add-refusal-requires : tie.Need-add-refusal-requires
+add-refusal-requires c κs = search needs
 
 returns : tie.Need-returns
 unfolding addOf
-returns c =
-    let n : soundOf (c .before .before .args .self) ≡ false = sym (c .before .sound .ensures) ∙ not-true (c .before .sound .result) (c .if1 .taken) in
-    simp n
+returns c = refused-by _ _ _ _ (c .before .add-refusal .ensures) (c .if1 .taken)
 
-returns-2 : tie.Need-returns-2
-unfolding addOf
-returns-2 c = simp (yes (c .before .before), eq-eqb _ _ (c .if2 .taken))
+mul-entry : tie.Need-mul-entry
+mul-entry c = search needs
 
-returns-3 : tie.Need-returns-3
-unfolding addOf
-returns-3 c = simp (yes (c .before .before .before), ne-eqb _ _ (c .before .if2 .left), le-leb _ _ (c .if3 .taken))
+element-set-from-entry : tie.Need-element-set-from-entry
+element-set-from-entry c = search needs
 
-keep-requires : tie.Need-keep-requires
-keep-requires c κs = sound-kept _ (yes (c .before .before .before))
+add-self : tie.Need-add-self
+add-self c = search needs
+
+renew-requires : tie.Need-renew-requires
+renew-requires c κs = search needs
 
 mul-row : tie.Need-mul-row
-mul-row c = search needs
+mul-row c = record { fits = omega (arith, add-none _ _ (taken (c .before)) .1) }
 
 element-set-from-row : tie.Need-element-set-from-row
-element-set-from-row c = search needs
+element-set-from-row c = omega (arith, add-none _ _ (taken (c .before)) .1)
 
-add-next : tie.Need-add-next
-add-next c = search needs
+add-self-2 : tie.Need-add-self-2
+add-self-2 c = record { fits = omega (arith, add-none _ _ (taken (c .before)) .1) }
 
-returns-4 : tie.Need-returns-4
-unfolding addOf
-returns-4 c =
-    let y = yes (c .before .before .before .before) in
-    let l : length (c .before .before .before .before .before .before .args .self .rows) ≡ 1024 = search (needs, length-mapped) in
-    simp (y, ne-eqb _ _ (c .before .before .if2 .left), lt-leb _ _ (c .before .if3 .left))
-    (done (add-board (c .before .before .before .before .before .before .args .self) (c .keep .result) _ (c .keep .ensures) l _ (c .before .if3 .left)))
+returns-2 : tie.Need-returns-2
+unfolding addOf entry
+returns-2 c =
+    let b = c .before .before .before .args .t1 in
+    accepted-by _ _ _ _ (taken (c .before))
+    (add-board b (c .if2 .self) _ (kept c) (long (c .before) .0) _ (add-none b _ (taken (c .before)) .1))
 
 pub add-spec : {M : Type 1} → statement M
 add-spec =
     tie.close
     (tie.spec
-    sound-requires
+    add-refusal-requires
     returns
-    returns-2
-    returns-3
-    keep-requires
+    mul-entry
+    element-set-from-entry
+    add-self
+    renew-requires
     mul-row
     element-set-from-row
-    add-next
-    returns-4)
+    add-self-2
+    returns-2)

@@ -1,18 +1,19 @@
--- `board::drop_oldest` meets its contract. Assumes nothing.
-use Prim.Native.Nat.{ℕ, suc, _≤_, _<_, _-_}
-use mathlib.Core.Path.{_≡_, ap, _∙_}
-use native.Mathlib.Omega.{arith}
+-- `board::renew` meets its contract. Assumes nothing.
+use mathlib.Core.Path.{_≡_}
+use Rattle.lists.specs.Moves.{closing, closing-start, closing-step, front-newest}
+use Rattle.board.specs.Journal.{noEntry}
 use borrow.Author.Needs.{needs}
+use native.Mathlib.Omega.{arith}
+use Prim.Native.Nat.{suc, _≤_, _<_, _-_}
 use lib.ListN.{length}
-use Rattle.lists.specs.Moves.{closing, closing-start, closing-step}
-use Rattle.board.proofs.drop_oldest.Statement.{statement}
-use Rattle.board.proofs.drop_oldest.Tie as tie
+use Rattle.board.proofs.renew.Statement.{statement}
+use Rattle.board.proofs.renew.Tie as tie
 
 abbrev Inv-loop : tie.InvT-loop
-Inv-loop entries₀ i₀ entries i = (i ≤ 255) × (length entries₀ ≡ 256) × (entries ≡ closing entries₀ 0 i)
+Inv-loop e entries₀ i₀ entries i = (i ≤ 255) × (length entries₀ ≡ 256) × (entries ≡ closing entries₀ 0 i)
 
 abbrev μ-loop : tie.MeasureT-loop
-μ-loop entries₀ i₀ entries i = 255 - i
+μ-loop e entries₀ i₀ entries i = 255 - i
 
 loop-holds : tie.Need-loop-holds Inv-loop μ-loop
 loop-holds c = (search needs, search needs, closing-start _ 0)
@@ -44,14 +45,17 @@ loop-again c =
     let b : suc (c .before .before .loop .i) < length (c .before .before .before .args .a) = omega arith in
     (search needs, v .1, rw (v .2) (closing-step _ 0 _ _ (omega arith) b))
 
+array-set-from-entries-2 : tie.Need-array-set-from-entries-2 Inv-loop μ-loop
+array-set-from-entries-2 c = search needs
+
 returns : tie.Need-returns Inv-loop μ-loop
 returns c =
     let v = c .before .loop .inv in
     let e : c .before .loop .i ≡ 255 = omega arith in
-    v .2 ∙ ap (λ (n : ℕ). closing (c .before .before .args .a) 0 n) e
+    rw (v .2, e) (front-newest (c .before .before .args .a) (c .before .before .args .e) noEntry (v .1))
 
-pub drop-oldest-spec : {M : Type 1} → statement M
-drop-oldest-spec =
+pub renew-spec : {M : Type 1} → statement M
+renew-spec =
     tie.close
     (tie.spec
     Inv-loop
@@ -65,4 +69,5 @@ drop-oldest-spec =
     add-i
     loop-less
     loop-again
+    array-set-from-entries-2
     returns)
