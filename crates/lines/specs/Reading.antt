@@ -319,8 +319,8 @@ module _ (a n o : ℕ) (m : ℤ) where
   after : (s t r : List ℕ) → s ≡ t ++ (32 ∷ r) → (10 ∈ s → ⊥) → 10 ∈ r → ⊥
   after s t r e x k = x (subst (λ (l : List ℕ). 10 ∈ l) (sym e) (append-right t (32 ∷ r) 10 (inr k)))
 
-  joined : (s f g h x y z : List ℕ) → s ≡ f ++ (32 ∷ x) → x ≡ g ++ (32 ∷ y) → y ≡ h ++ (32 ∷ z) → s ≡ f ++ (32 ∷ (g ++ (32 ∷ (h ++ (32 ∷ z)))))
-  joined s f g h x y z p q r = cc
+  fields-joined : (s f g h x y z : List ℕ) → s ≡ f ++ (32 ∷ x) → x ≡ g ++ (32 ∷ y) → y ≡ h ++ (32 ∷ z) → s ≡ f ++ (32 ∷ (g ++ (32 ∷ (h ++ (32 ∷ z)))))
+  fields-joined s f g h x y z p q r = cc
 
   pub row-line : (s : List ℕ) → (10 ∈ s → ⊥) → lineOf s ≡ Row a n o m → Line s a n o m
   unfolding Reads
@@ -340,7 +340,7 @@ module _ (a n o : ℕ) (m : ℤ) where
         second = e₁ .field;
         third = e₂ .field;
         fourth = e₂ .rest;
-        text = joined s (e₀ .field) (e₁ .field) (e₂ .field) (e₀ .rest) (e₁ .rest) (e₂ .rest) (e₀ .text) (e₁ .text) (e₂ .text);
+        text = fields-joined s (e₀ .field) (e₁ .field) (e₂ .field) (e₀ .rest) (e₁ .rest) (e₂ .rest) (e₀ .text) (e₁ .text) (e₂ .text);
         parents = number (e₀ .field) a (some-of (e₀ .field) (e₀ .some)) (e₀ .digits) (e₀ .width) (e₃ .parent);
         numerals = number (e₁ .field) n (some-of (e₁ .field) (e₁ .some)) (e₁ .digits) (e₁ .width) (e₃ .numeral);
         orders = number (e₂ .field) o (some-of (e₂ .field) (e₂ .some)) (e₂ .digits) (e₂ .width) (e₃ .order);

@@ -42,12 +42,12 @@ abbrev pub enterAll : Load → List Values → Load
 enterAll l [] = l
 enterAll l (v ∷ vs) = cond (stopped l) l (enterAll (enterOf l v) vs)
 
-abbrev pub restOf : Load → Rest → Load
-restOf l (within q) = cond (stopped l) l (goesOn l q)
-restOf l broken = cond (stopped l) l (isBad l)
+abbrev pub afterRows : Load → Rest → Load
+afterRows l (within q) = cond (stopped l) l (goesOn l q)
+afterRows l broken = cond (stopped l) l (isBad l)
 
 abbrev pub absorb : Load → Taken → Load
-absorb l t = restOf (enterAll l (t .rows)) (t .rest)
+absorb l t = afterRows (enterAll l (t .rows)) (t .rest)
 
 -- the bytes s go on with the line that is being read
 unfoldable pub feedOf : Load → List ℕ → Load

@@ -2,26 +2,27 @@
 use Prim.Native.Nat.{ℕ, _+_, _≤_, _<_}
 use native.Mathlib.Omega.{arith}
 use native.Mathlib.Nat.{mod-eq-of-lt}
-use mathlib.Core.Path.{_≡_, refl, sym, ap, ap₂, subst, _∙_}
+use mathlib.Core.Path.{_≡_, refl, sym, ap, ap₂, _∙_}
 use mathlib.Core.Bool.{Bool, true, false, cond, not, _||_}
 use mathlib.Core.List.{List, [], _∷_, _++_, map, append-assoc, append-nil}
 use lib.Dec.{eqb, leb}
 use lib.ListN.{length, length-append, length-replicate}
 use lib.Seq.{length-take-le}
-use borrow.Author.Tests.{eqb-true, leb-false}
+use borrow.Author.Tests.{eqb-true, eqb-false, leb-false}
 use Rattle.lists.specs.Stores.{length-front, take-front}
 use Rattle.board.specs.declared.Row.{Row}
 use Rattle.board.specs.declared.Board.{Board}
 use Rattle.board.specs.declared.Edited.{Edited}
 use Rattle.board.specs.Journal.{blank}
-use Rattle.board.specs.Edits.{addOf, emptyOf, soundOf, rowsOf, refused, accepted}
+use Rattle.lists.specs.Choice.{cond-none}
+use Rattle.board.specs.Edits.{addRefusal, addOf, emptyOf, soundOf, rowsOf, refused, accepted}
 use Rattle.lines.specs.declared.Scan.{Scan}
 use Rattle.lines.specs.declared.Step.{Step}
 use Rattle.lines.specs.declared.Step.the-variants as step
 use Rattle.lines.specs.Scan.{fresh, blankOf, finishOf}
 use Rattle.lines.specs.Text.{linesOf, Values, Ending, whole, badLine, Say, Rest, within, broken, Taken, takenOf, atEnd, endedOf}
 use Rattle.lines.specs.Chunks.{follow, chunks, text-read, said-once}
-use Rattle.listing.specs.Loading.{startOf, stopped, rowOf, enterOf, goesOn, isBad, enterAll, restOf, absorb, feedOf, lastOf, endOf}
+use Rattle.listing.specs.Loading.{startOf, stopped, rowOf, enterOf, goesOn, isBad, enterAll, afterRows, absorb, feedOf, lastOf, endOf}
 use Rattle.listing.specs.Outcome.{loaded, refusedBy, outcomeOf, addRows}
 use Rattle.listing.specs.declared.Load.{Load}
 
@@ -32,12 +33,12 @@ module _ (l : Load) (h : stopped l ≡ true) where
   enter-stopped [] = refl
   enter-stopped (v ∷ vs) = rw h
 
-  rest-stopped : (r : Rest) → restOf l r ≡ l
+  rest-stopped : (r : Rest) → afterRows l r ≡ l
   rest-stopped (within q) = rw h
   rest-stopped broken = rw h
 
-  absorb-stopped : (vs : List Values) (r : Rest) → restOf (enterAll l vs) r ≡ l
-  absorb-stopped vs r = ap (λ (k : Load). restOf k r) (enter-stopped vs) ∙ rest-stopped r
+  absorb-stopped : (vs : List Values) (r : Rest) → afterRows (enterAll l vs) r ≡ l
+  absorb-stopped vs r = ap (λ (k : Load). afterRows k r) (enter-stopped vs) ∙ rest-stopped r
 
 pub feed-stopped : (l : Load) (s : List ℕ) → stopped l ≡ true → l ≡ feedOf l s
 unfolding feedOf
@@ -62,12 +63,12 @@ enter-append [] us l = refl
 enter-append (v ∷ vs) us l = enter-cons l v vs us (enter-append vs us (enterOf l v)) (stopped l) refl
 
 -- the line that is being read matters only to the bytes that follow
-rest-anew : (l : Load) (q : Scan) (vs : List Values) (r : Rest) → stopped l ≡ false → restOf (enterAll (goesOn l q) vs) r ≡ restOf (enterAll l vs) r
+rest-anew : (l : Load) (q : Scan) (vs : List Values) (r : Rest) → stopped l ≡ false → afterRows (enterAll (goesOn l q) vs) r ≡ afterRows (enterAll l vs) r
 rest-anew l q [] (within x) h = rw h
 rest-anew l q [] broken h = rw h
 rest-anew l q (v ∷ vs) r h = rw h
 
-feed-on : (l : Load) (q : Scan) (t : List ℕ) (b : Bool) → stopped l ≡ b → feedOf (cond b l (goesOn l q)) t ≡ restOf (enterAll l (takenOf q t .rows)) (takenOf q t .rest)
+feed-on : (l : Load) (q : Scan) (t : List ℕ) (b : Bool) → stopped l ≡ b → feedOf (cond b l (goesOn l q)) t ≡ afterRows (enterAll l (takenOf q t .rows)) (takenOf q t .rest)
 unfolding feedOf
 feed-on l q t true h = sym (feed-stopped l t h) ∙ sym (absorb-stopped l h (takenOf q t .rows) (takenOf q t .rest))
 feed-on l q t false h = rest-anew l q (takenOf q t .rows) (takenOf q t .rest) h
@@ -79,7 +80,7 @@ feed-broken l t false h = sym (feed-stopped (isBad l) t (bad-stopped l))
 feed-follow : (l : Load) (vs : List Values) (r : Rest) (t : List ℕ) → feedOf (absorb l (record { rows = vs; rest = r })) t ≡ absorb l (follow vs r (λ q. takenOf q t))
 feed-follow l vs (within q) t =
     feed-on (enterAll l vs) q t (stopped (enterAll l vs)) refl
-    ∙ ap (λ (k : Load). restOf k (takenOf q t .rest)) (sym (enter-append vs (takenOf q t .rows) l))
+    ∙ ap (λ (k : Load). afterRows k (takenOf q t .rest)) (sym (enter-append vs (takenOf q t .rows) l))
 feed-follow l vs broken t = feed-broken (enterAll l vs) t (stopped (enterAll l vs)) refl
 
 -- a text fed in two chunks is fed whole
@@ -115,17 +116,22 @@ module _ (b : Board) (r : Row) (g : Sized b) where
     };
   }
 
-  by-tests : (s n f : Bool) → leb 1024 (b .count) ≡ f
-      → (x : Edited) → cond s (cond n (refused 2 b) (cond f (refused 3 b) (accepted b (record { kind = 0; at = b .count; row = r }) (rowsOf b ++ (r ∷ []))))) (refused 1 b) ≡ x
-      → x .refusal ≡ 0 → Added b r x
-  by-tests true false false h x e z = subst (Added b r) e (one-more (leb-false 1024 (b .count) h))
-  by-tests true false true h x e z = absurd (omega (arith, ap (λ (y : Edited). y .refusal) e))
-  by-tests true true f h x e z = absurd (omega (arith, ap (λ (y : Edited). y .refusal) e))
-  by-tests false n f h x e z = absurd (omega (arith, ap (λ (y : Edited). y .refusal) e))
+  not-full : addRefusal b r ≡ 0 → b .count < 1024
+  unfolding addRefusal
+  not-full z =
+      let sound = cond-none (not (soundOf b)) 1 (cond (eqb (r .numeral) 0) 2 (cond (leb 1024 (b .count)) 3 0)) (omega arith) z in
+      let numbered = cond-none (eqb (r .numeral) 0) 2 (cond (leb 1024 (b .count)) 3 0) (omega arith) (sound .1) in
+      leb-false 1024 (b .count) (cond-none (leb 1024 (b .count)) 3 0 (omega arith) (numbered .1) .0)
+
+  by-refusal : (t : Bool) → eqb (addRefusal b r) 0 ≡ t
+      → cond t (accepted b (record { kind = 0; at = b .count; row = r }) (rowsOf b ++ (r ∷ []))) (refused (addRefusal b r) b) .refusal ≡ 0
+      → Added b r (cond t (accepted b (record { kind = 0; at = b .count; row = r }) (rowsOf b ++ (r ∷ []))) (refused (addRefusal b r) b))
+  by-refusal true e z = one-more (not-full (eqb-true (addRefusal b r) 0 e))
+  by-refusal false e z = absurd (eqb-false (addRefusal b r) 0 e z)
 
   added : addOf b r .refusal ≡ 0 → Added b r (addOf b r)
   unfolding addOf
-  added z = by-tests (soundOf b) (eqb (r .numeral) 0) (leb 1024 (b .count)) refl (addOf b r) refl z
+  added z = by-refusal (eqb (addRefusal b r) 0) refl z
 
 -- ---- the whole text
 

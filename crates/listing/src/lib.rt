@@ -1,11 +1,14 @@
-// The listing program as a library: the bytes of its input become the rows of a board.
+// The listing program as a library: the bytes of its input become the rows of a board, and the words of an index become the columns of its nodes.
 use board::Board;
 use board::Row;
 use lines::Found;
 use lines::Scan;
 use lines::Step;
+use printing::Columns;
 ghost use mathlib.Core.Path.{_≡_};
+ghost use Rattle.image.specs.Layout.{bodyAt};
 ghost use Rattle.lines.specs.Text.{values};
+ghost use Rattle.listing.specs.Nodes.{columnsOf};
 ghost use Rattle.listing.specs.Loading.{startOf, enterOf, isBad, feedOf, endOf};
 
 // How far the input has been read: the refusal of the first row that was refused (0 if none was), whether a line is bad,
@@ -120,4 +123,34 @@ pub fn feed(load: Load, chunk: &[u8]) -> Load
         }
     }
     now
+}
+
+// Where the body of a rank begins.
+fn body_at(rank: u32) -> usize
+    ensures { λ r. ⌜ r ≡ bodyAt rank ⌝ }
+{
+    if rank == 0 {
+        return 8;
+    }
+    8 + 6 * ((rank - 1) as usize)
+}
+
+// What is printed of the node of a rank.
+pub fn columns(index: &[u32], totals: &[i64], rank: u32) -> Columns
+    ensures { λ r. ⌜ r ≡ columnsOf (now (index .entry)) (now (totals .entry)) rank ⌝ }
+{
+    let at = body_at(rank);
+    let word = lists::get(index, at + 5);
+    let summed = sums::subtree_sum(index, totals, rank);
+    Columns {
+        rank,
+        size: lists::get(index, at + 2),
+        parent: lists::get(index, at + 3),
+        level: image::level_of(word),
+        root: lists::get(index, at + 4),
+        closing: image::closing_of(word),
+        orphan: image::orphan_of(word),
+        numeral: lists::get(index, at),
+        sum: summed.sum,
+    }
 }

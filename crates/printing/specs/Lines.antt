@@ -1,7 +1,7 @@
 -- What is put before a text stands before it, and a node's line has the nine columns. Assumes nothing.
 use Prim.Native.Nat.{ℕ, _+_, _-_, _≤_}
 use native.Mathlib.Omega.{arith}
-use mathlib.Core.Path.{_≡_, ap, _∙_}
+use mathlib.Core.Path.{_≡_, sym, ap, subst, _∙_}
 use mathlib.Core.Bool.{Bool, true, false, cond}
 use mathlib.Core.List.{List, [], _∷_, _++_, append-assoc}
 use lib.IntN.{ℤ, pos, natAbs}
@@ -95,3 +95,10 @@ line-holds c =
     let h₈ = column-holds _ _ 89 h₇ (c .parent) (omega arith) in
     let h₉ = column-holds _ _ 110 h₈ (c .size) (omega arith) in
     column-holds _ _ 131 h₉ (c .rank) (omega arith)
+
+-- a line starts in its bytes or at their end
+pub line-starts : (c : Columns) (p : Printed) → p ≡ lineOf c → p .from ≤ 256
+line-starts c p e = subst (λ (q : Printed). q .from ≤ 256) (sym e) (line-holds c .high)
+
+pub line-long : (c : Columns) (p : Printed) → p ≡ lineOf c → length (p .bytes) ≡ 256
+line-long c p e = ap (λ (q : Printed). length (q .bytes)) e ∙ line-holds c .long
