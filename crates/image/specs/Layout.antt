@@ -1,9 +1,10 @@
 -- Paper 01, "Index image": the words of an index image and what they mean. Assumes nothing: these are definitions.
-use Prim.Native.Nat.{ℕ, zero, suc, _+_, _*_, _-_, _%_, _/_, _^_}
-use mathlib.Core.List.{List, [], _∷_, _++_}
+use Prim.Native.Nat.{ℕ, _+_, _*_, _-_, _%_, _/_, _^_}
+use mathlib.Core.List.{List, [], _∷_, _++_, map}
 use mathlib.Core.Bool.{Bool, true, false, cond, _||_, not}
 use lib.ListN.{length, getD}
 use lib.Dec.{ltb, eqb}
+use Rattle.lists.specs.Members.{numbers}
 use Rattle.image.specs.declared.Body.{Body}
 
 -- where the body of a rank begins; ranks are counted from 1
@@ -79,3 +80,31 @@ contentsWords n check = n ∷ 8 ∷ 6 ∷ check ∷ 0 ∷ 0 ∷ 0 ∷ 0 ∷ []
 -- the image of a list of nodes
 unfoldable pub imageWords : List Body → List ℕ
 imageWords bs = contentsWords (length bs) (checked 0 (flat bs)) ++ flat bs
+
+-- what the words say of a rank
+abbrev pub bodyOf : List ℕ → ℕ → Body
+bodyOf s rank =
+    record {
+      numeral = numeralAt s rank;
+      row = rowAt s rank;
+      size = sizeAt s rank;
+      parent = parentAt s rank;
+      root = rootAt s rank;
+      level = levelAt s rank;
+      closing = closingAt s rank;
+      orphan = orphanAt s rank;
+    }
+
+-- the nodes that the words of an index stand for, rank by rank
+unfoldable pub bodiesOf : List ℕ → List Body
+bodiesOf s = map (bodyOf s) (numbers 1 (nodeCount s))
+
+-- refusal 13, its words on the index: under 8 words, word 1 isn't 8, word 2 isn't 6, n is over 65,535 or more than fits
+unfoldable pub badContents : List ℕ → Bool
+badContents s =
+    ltb (length s) 8 ||
+    (not (eqb (getD s 1 0) 8) ||
+    (not (eqb (getD s 2 0) 6) || (ltb 65535 (nodeCount s) || ltb (length s) (8 + 6 * nodeCount s))))
+
+abbrev pub contentsRefusal : List ℕ → ℕ
+contentsRefusal s = cond (badContents s) 13 0
