@@ -150,7 +150,7 @@ unfolding levelLimit orphanRows tops
 adopt-bodies R start s a e rank k r q =
     bodies-adopt R start s a e
     ∙ ap₂ (λ (i j : ℕ). firstFor R s ++ (mkBody R false a (suc (length (ownFor R a i) + length (orphansFor R (map last (regular R start None)) i 2 j))) 0 i 1 false ∷ (ownFor R a i ++ orphansFor R (map last (regular R start None)) i 2 j)))
-      (sym r) (ap (λ (i : ℕ). suc i + length (ownFor R a i)) (sym r) ∙ sym q)
+    (sym r) (ap (λ (i : ℕ). suc i + length (ownFor R a i)) (sym r) ∙ sym q)
 
 snoc-view : (l : List ℕ) → (l ≡ []) ⊎ ((s : List ℕ) × (a : ℕ) × (l ≡ s ++ (a ∷ [])))
 snoc-view [] = inl refl
@@ -186,8 +186,14 @@ regular-shorter R start depth (suc (suc zero)) low none =
         let taken : List Body = orphansFor R (map last (regular R start None)) rank 2 k in
         let x : Body = mkBody R false (q .1) (suc (length own)) 0 rank 1 false in
         let y : Body = mkBody R false (q .1) (suc (length own + length taken)) 0 rank 1 false in
-        omega (arith, ap length (adopt-regular R start (q .0) (q .1) (q .2) rank refl), ap length (adopt-bodies R start (q .0) (q .1) (q .2) rank k refl refl),
-          length-append (firstFor R (q .0)) (x ∷ own), length-append (firstFor R (q .0)) (y ∷ (own ++ taken)), length-append own taken)
+        omega (
+          arith,
+          ap length (adopt-regular R start (q .0) (q .1) (q .2) rank refl),
+          ap length (adopt-bodies R start (q .0) (q .1) (q .2) rank k refl refl),
+          length-append (firstFor R (q .0)) (x ∷ own),
+          length-append (firstFor R (q .0)) (y ∷ (own ++ taken)),
+          length-append own taken,
+        )
 regular-shorter R start depth (suc (suc (suc zero))) low none =
     let e : depth ≡ None = none (omega arith) in
     subst (λ (d : Depth). length (regularFor R start d) ≤ length (bodies R start d root)) (sym e)
@@ -274,7 +280,7 @@ module _ (R : List Row) (start : Row → Bool) (depth : Depth) (row parent numer
           let L : List Body = regular-bodies in
           let i : k - 1 < length L = omega (arith, count-is) in
           let e : rowAt ix₁ k ≡ getD L (k - 1) noBody .row =
-            ap (λ (s : List ℕ). rowAt s k) (begun-walked .written fit) ∙ ap (λ (j : ℕ). rowAt (sets ix 8 (flat L)) j) (sym back) ∙ row-written ix L (k - 1) noBody room i in
+          ap (λ (s : List ℕ). rowAt s k) (begun-walked .written fit) ∙ ap (λ (j : ℕ). rowAt (sets ix 8 (flat L)) j) (sym back) ∙ row-written ix L (k - 1) noBody room i in
           let m : getD L (k - 1) noBody ∈ bodies R start depth ignore = subst (λ (l : List Body). getD L (k - 1) noBody ∈ l) (sym (bodies-ignore R start depth)) (getD-in L (k - 1) noBody i) in
           let r = bodies-bounded R start depth ignore (getD L (k - 1) noBody) m .row-of in
           (omega (arith, r), omega (arith, r, row-count R row parent numeral child next′ class owner keys ready))
@@ -348,9 +354,9 @@ module _ (R : List Row) (start : Row → Bool) (depth : Depth) (row parent numer
         adopt-size =
             let L : List Body = firstFor R s ++ (mine (suc (length own)) ∷ own) in
             let e : getD ix₁ (8 + 6 * b .before + 2) 0 ≡ suc (length own) =
-              ap (λ (w : List ℕ). getD w (8 + 6 * b .before + 2) 0) (begun-walked .written fit ∙ ap (λ (l : List Body). sets ix 8 (flat l)) regular-is)
-              ∙ ap (λ (j : ℕ). getD (sets ix 8 (flat L)) (8 + 6 * j + 2) 0) before-first
-              ∙ size-written ix (firstFor R s) (mine (suc (length own))) own (omega (arith, counted, length-append (firstFor R s) (mine (suc (length own)) ∷ own))) in
+            ap (λ (w : List ℕ). getD w (8 + 6 * b .before + 2) 0) (begun-walked .written fit ∙ ap (λ (l : List Body). sets ix 8 (flat l)) regular-is)
+            ∙ ap (λ (j : ℕ). getD (sets ix 8 (flat L)) (8 + 6 * j + 2) 0) before-first
+            ∙ size-written ix (firstFor R s) (mine (suc (length own))) own (omega (arith, counted, length-append (firstFor R s) (mine (suc (length own)) ∷ own))) in
             omega (arith, e, counted)
 
         taken : List Body
@@ -362,7 +368,7 @@ module _ (R : List Row) (start : Row → Bool) (depth : Depth) (row parent numer
             let lev : orphanLevel (b .before + 1) ≡ 2 = ap (λ (t : Bool). cond t 1 2) (ne-eqb (b .before + 1) 0 (λ z. absurd (omega arith))) in
             let k : b .count + 1 ≡ suc rank + length own = omega (arith, counted, before-first) in
             let same : orphansFor R (map last (regular R start None)) rank 2 (b .count + 1) ≡ taken =
-              ap₂ (λ (ends : List ℕ) (l : ℕ). orphansFor R ends rank l (b .count + 1)) (ap (λ (d : Depth). map last (regular R start d)) (sym none) ∙ sym ends-are) (sym lev) in
+            ap₂ (λ (ends : List ℕ) (l : ℕ). orphansFor R ends rank l (b .count + 1)) (ap (λ (d : Depth). map last (regular R start d)) (sym none) ∙ sym ends-are) (sym lev) in
             let size : (T : List Body) → suc (length own + length T) ≡ suc (length own) + length T = λ (T : List Body). omega arith in
             ap (λ (d : Depth). bodies R start d adopt) none
             ∙ adopt-bodies R start s a starts-split rank (b .count + 1) rank-is k
@@ -396,17 +402,17 @@ module _ (R : List Row) (start : Row → Bool) (depth : Depth) (row parent numer
 
             go : Dec (cap < q .met .count) → Walked (A ++ (mine (suc (length own) + length taken) ∷ T)) 0 cap 0 on on₂ ix ix₂ r
             go (yes over) = record {
-                count = omega (arith, q .count-is, both .count, lengths);
-                marks = both .marks;
-                written = λ h. absurd (omega (arith, q .count-is));
-                check = λ h. absurd (omega (arith, q .count-is));
-              }
+              count = omega (arith, q .count-is, both .count, lengths);
+              marks = both .marks;
+              written = λ h. absurd (omega (arith, q .count-is));
+              check = λ h. absurd (omega (arith, q .count-is));
+            }
             go (no low) =
                 let h : q .met .count ≤ cap = omega arith in
                 let w = q .raised h in
                 let size-is : getD (q .middle) (8 + 6 * b .before + 2) 0 ≡ suc (length own) =
-                  ap (λ (l : List ℕ). getD l (8 + 6 * b .before + 2) 0) (both .written h) ∙ ap (λ (j : ℕ). getD (sets ix 8 (flat (A ++ (mine (suc (length own)) ∷ T)))) (8 + 6 * j + 2) 0) before-first
-                  ∙ size-written ix A (mine (suc (length own))) T (omega (arith, both .count, length-append A (mine (suc (length own)) ∷ T))) in
+                ap (λ (l : List ℕ). getD l (8 + 6 * b .before + 2) 0) (both .written h) ∙ ap (λ (j : ℕ). getD (sets ix 8 (flat (A ++ (mine (suc (length own)) ∷ T)))) (8 + 6 * j + 2) 0) before-first
+                ∙ size-written ix A (mine (suc (length own))) T (omega (arith, both .count, length-append A (mine (suc (length own)) ∷ T))) in
                 record {
                   count = omega (arith, q .count-is, both .count, lengths);
                   marks = both .marks;

@@ -67,12 +67,13 @@ module _ (R : List Row) (row parent numeral child next class owner keys : List �
 
     pub masked : (m : List ℕ) → m ≡ maskedParents row (reachedFlags ends (length row)) parent → Masked R (λ x. not (memb x ends)) row m
     unfolding maskedParents maskedAt inside
-    masked m e =
-        ( ap length e ∙ by-place-length (maskedAt row (reachedFlags ends (length row)) parent) 0 (length row)
-        , λ q h. ap (λ (l : List ℕ). getD l q 0) e
-            ∙ by-place (maskedAt row (reachedFlags ends (length row)) parent) 0 (length row) q 0 h
-            ∙ ap (maskedAt row (reachedFlags ends (length row)) parent) (zero-add q)
-            ∙ ap₂ (λ (b : Bool) (y : ℕ). cond b y 0) (outside-is q h) (parent-at R row parent numeral (ready .ordered) q h))
+    masked m e = (
+      ap length e ∙ by-place-length (maskedAt row (reachedFlags ends (length row)) parent) 0 (length row),
+      λ q h. ap (λ (l : List ℕ). getD l q 0) e
+          ∙ by-place (maskedAt row (reachedFlags ends (length row)) parent) 0 (length row) q 0 h
+          ∙ ap (maskedAt row (reachedFlags ends (length row)) parent) (zero-add q)
+          ∙ ap₂ (λ (b : Bool) (y : ℕ). cond b y 0) (outside-is q h) (parent-at R row parent numeral (ready .ordered) q h),
+    )
 
     top-test : ℕ → Bool
     top-test x = not (memb x ends) && noParent R (par R x)
@@ -81,7 +82,7 @@ module _ (R : List Row) (row parent numeral child next class owner keys : List �
     unfolding topFlags topAt inside top-test
     tops-are t e =
         e ∙ ext-getD 0 (map f (numbers 0 (length row))) (map (λ x. flagOf (top-test x)) row) (by-place-length f 0 (length row) ∙ sym (length-map row (λ x. flagOf (top-test x))))
-            (λ q h. at q (omega (arith, by-place-length f 0 (length row))))
+        (λ q h. at q (omega (arith, by-place-length f 0 (length row))))
       where
         f : ℕ → ℕ
         f = topAt row (reachedFlags ends (length row)) parent owner
@@ -127,5 +128,5 @@ module _ (R : List Row) (row parent numeral child next class owner keys : List �
           let sibs : map (rowOf W) (flagged t 0 n) ≡ topsAmong R ends = ap (λ (j : ℕ). map (rowOf W) (flagged t 0 j)) e ∙ tops-flagged in
           let E : ℕ → List ℕ → ℕ → List Body = λ (g : ℕ) (xs : List ℕ) (v : ℕ). emit (mkBody R true) (num R) (par R) (outside R ends) g [] xs rank rank v (count + 1) in
           let same : E (limit + 1 - level) (map (rowOf W) (flagged t 0 n)) level ≡ orphansFrom R ends rank count =
-            ap (λ (g : ℕ). E g (map (rowOf W) (flagged t 0 n)) level) f ∙ ap (λ (xs : List ℕ). E (suc (length R)) xs level) sibs ∙ ap (λ (v : ℕ). E (suc (length R)) (topsAmong R ends) v) l in
+          ap (λ (g : ℕ). E g (map (rowOf W) (flagged t 0 n)) level) f ∙ ap (λ (xs : List ℕ). E (suc (length R)) xs level) sibs ∙ ap (λ (v : ℕ). E (suc (length R)) (topsAmong R ends) v) l in
           subst (λ (L : List Body). Walked L count cap check on on′ ix ix′ r) same (w (num R) (par R) (outside R ends) [] orphans-hung (clear-marked W (num R) on clear))

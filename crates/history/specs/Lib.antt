@@ -5,3 +5,4 @@ pub mod Steps
 pub mod Simulation
 pub mod Encoding
 pub mod Replays
+pub mod Encoded
