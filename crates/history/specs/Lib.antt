@@ -6,3 +6,4 @@ pub mod Simulation
 pub mod Encoding
 pub mod Replays
 pub mod Encoded
+pub mod Undone
