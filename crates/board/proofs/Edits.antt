@@ -44,7 +44,7 @@ pub keep-full : (b : Board) (e : Entry) (p : List Entry) → length (b .journal)
 unfolding pushed
 keep-full b e p l h q =
     let t : ltb (length (entriesOf b)) 256 ≡ false = le-ltb (length (entriesOf b)) 256 (rw (length-take-le (b .kept) (b .journal) (omega arith)) (omega arith)) in
-    rw t (entries-are b (drop 1 (entriesOf b) ++ (e ∷ [])) (b .kept) p (rw h (sym (length-newest (b .journal) e l))) (rw h q))
+    rw t (entries-are b (drop 1 (entriesOf b) ++ (e ∷ [])) (b .kept) p (rw h (sym (length-newest (b .journal) 255 e (omega arith)))) (rw h q))
 
 -- ---- the number that refuses
 

@@ -6,6 +6,7 @@ ghost use Rattle.lists.specs.Stores.{front};
 ghost use Rattle.board.specs.Tests.{canUndo};
 ghost use Rattle.board.specs.Edits.{emptyOf, soundOf, addRefusal, addOf, rowRefusal, withdrawOf, remarkOf, undoRefusal, undoOf};
 
+// A row of the parts list: parent 0 is none, minutes below 0 are a deduction.
 #[repr(C)]
 pub struct Row {
     pub parent: u32,
@@ -14,6 +15,8 @@ pub struct Row {
     pub minutes: i32,
 }
 
+// What an edit leaves in the journal. Kind 0: a row was added at the end; 1: `row` was withdrawn from place `at`;
+// 2: the row at place `at`, which was `row`, was remarked.
 #[repr(C)]
 pub struct Entry {
     pub kind: u32,
@@ -21,6 +24,7 @@ pub struct Entry {
     pub row: Row,
 }
 
+// The first `count` places hold the rows, the first `kept` the entries, oldest first.
 #[repr(C)]
 pub struct Board {
     pub count: usize,
@@ -29,13 +33,15 @@ pub struct Board {
     pub journal: [Entry; 256],
 }
 
+// The board after an edit, and the paper's refusal number, 0 for none. The board comes first: with the number before it
+// there would be padding between them, and the compiled edits would copy the board once more.
 #[repr(C)]
 pub struct Edited {
     pub board: Board,
     pub refusal: u32,
 }
 
-// Whether an entry can be undone on n rows that are numbered.
+// Whether an entry can be undone on n rows with numerals of 1 or more.
 fn can_undo(e: Entry, n: usize) -> bool
     ensures { λ r. ⌜ r ≡ canUndo e n ⌝ }
 {
@@ -74,8 +80,9 @@ fn renew(a: [Entry; 256], e: Entry) -> [Entry; 256]
     entries
 }
 
-// Three functions below store an entry in the same few lines: a function of its own would copy the board twice more.
+// Add, withdraw and remark store their entry in the same lines: a function for it would copy the board twice more.
 impl Board {
+    // No rows and no kept steps.
     pub const EMPTY: Board = Board {
         count: 0,
         rows: [Row {
@@ -130,6 +137,7 @@ impl Board {
         can_undo(e, count)
     }
 
+    // Refusals 1 to 3.
     fn add_refusal(self, row: Row) -> u32
         ensures { λ r. ⌜ r ≡ addRefusal self row ⌝ }
     {
@@ -179,6 +187,7 @@ impl Board {
         }
     }
 
+    // Refusals 1 and 4.
     fn row_refusal(self, k: usize) -> u32
         ensures { λ r. ⌜ r ≡ rowRefusal self k ⌝ }
     {
@@ -273,6 +282,7 @@ impl Board {
         }
     }
 
+    // Refusals 1 and 5.
     fn undo_refusal(self) -> u32
         ensures { λ r. ⌜ r ≡ undoRefusal self ⌝ }
     {

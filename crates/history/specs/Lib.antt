@@ -5,3 +5,5 @@ pub mod Steps
 pub mod Simulation
 pub mod Encoding
 pub mod Replays
+pub mod Encoded
+pub mod Undone

@@ -25,6 +25,7 @@ abbrev pub AllUndoable : List Row → List Entry → Type 0
 AllUndoable rows [] = Unit {0}
 AllUndoable rows (e ∷ entries) = (undoable e rows ≡ true) × AllUndoable (undone e rows) entries
 
+-- what every board that calls lead to is: its arrays are whole, and each kept step can be undone, one after the other
 pub record Valid (b : Board) : Type 0 where
   pub places : length (b .rows) ≡ 1024
   pub slots : length (b .journal) ≡ 256

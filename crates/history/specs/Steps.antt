@@ -25,6 +25,8 @@ use Rattle.history.specs.Machine.{gives, changes, goesBack, answer}
 use Rattle.history.specs.Calls.{edit}
 use Rattle.history.specs.States.{earlierLists, stateOf, AllUndoable, Valid}
 
+-- ---- fewer entries give fewer earlier lists
+
 earlier-take : (n : ℕ) (R : List Row) (es : List Entry) → earlierLists R (take n es) ≡ take n (earlierLists R es)
 earlier-take zero R es = refl
 earlier-take (suc n) R [] = refl
@@ -92,7 +94,7 @@ module _ (b : Board) (v : Valid b) where
     go true q = simp (le-leb (b .count) 1024 (v .small), le-leb (b .kept) 256 (v .few), v .good, q)
     go false q = simp (le-leb (b .count) 1024 (v .small), le-leb (b .kept) 256 (v .few), v .good, q) (can (eqb-false (b .kept) 0 q) .0)
 
-  -- ---- an accepted change, gives by e, to the rows R
+  -- ---- an accepted edit that e tells, to the rows R
   module _ (e : Entry) (R : List Row) (short : length R ≤ 1024) (well : allNumbered R ≡ true) (is : isThere e (length R) ≡ true) (back : undone e R ≡ rowsOf b) where
     J : List Entry
     J = pushed (entriesOf b) e

@@ -164,7 +164,7 @@ module _ {A : Type 0} where
       ∙ sym (append-assoc (take k (take n p)) (a ∷ drop k (take n p)) (drop (suc n) p))
       ∙ front-of (take k (take n p) ++ a ∷ drop k (take n p)) p (suc n) (length-in p n k a (le-of-lt b) ∙ add-one n)
 
-  -- ---- one refront
+  -- ---- one replaced
 
   pub length-one : (p : List A) (n k : ℕ) (a : A) → n ≤ length p → length (set (take n p) k a) ≡ n
   length-one p n k a b = length-set (take n p) k a ∙ length-take-le n p b
@@ -184,15 +184,18 @@ module _ {A : Type 0} where
       ∙ ap (λ (r : List A). r ++ drop m p) (sym (take-take m n p h))
       ∙ front-of (take m (take n p)) p m (length-take-le m (take n p) (rw (length-take-le n p b) h))
 
-  -- ---- a full journal: the oldest is dropped
+  -- ---- full: the first is dropped and one more stands last
 
-  pub length-newest : (p : List A) (a : A) → length p ≡ 256 → length (drop 1 (take 256 p) ++ (a ∷ [])) ≡ 256
-  length-newest p a h = length-append (drop 1 (take 256 p)) (a ∷ []) ∙ ap (λ (n : ℕ). n + 1) (length-slice 1 256 p (omega arith))
+  length-rest : (p : List A) (n : ℕ) → n < length p → length (slice 1 (suc n) p) ≡ n
+  length-rest p n h = let e : suc n - 1 ≡ n = omega arith in length-slice 1 (suc n) p h ∙ e
 
-  pub front-newest : (p : List A) (a d : A) → length p ≡ 256 → set (closing p 0 255) 255 a ≡ front (drop 1 (take 256 p) ++ (a ∷ [])) p
+  pub length-newest : (p : List A) (n : ℕ) (a : A) → n < length p → length (drop 1 (take (suc n) p) ++ (a ∷ [])) ≡ suc n
+  length-newest p n a h = length-append (drop 1 (take (suc n) p)) (a ∷ []) ∙ ap (λ (m : ℕ). m + 1) (length-rest p n h) ∙ add-one n
+
+  pub front-newest : (p : List A) (n : ℕ) (a d : A) → n < length p → set (closing p 0 n) n a ≡ front (drop 1 (take (suc n) p) ++ (a ∷ [])) p
   unfolding closing
-  front-newest p a d h =
-      ap (λ (r : List A). set (slice 1 256 p ++ r) 255 a) (drop-cons p 255 d (omega arith))
-      ∙ set-at (slice 1 256 p) (getD p 255 d) (drop 256 p) a 255 (length-slice 1 256 p (omega arith))
-      ∙ sym (append-snoc (slice 1 256 p) a (drop 256 p))
-      ∙ front-of (slice 1 256 p ++ (a ∷ [])) p 256 (length-newest p a h)
+  front-newest p n a d h =
+      ap (λ (r : List A). set (slice 1 (suc n) p ++ r) n a) (drop-cons p n d h)
+      ∙ set-at (slice 1 (suc n) p) (getD p n d) (drop (suc n) p) a n (length-rest p n h)
+      ∙ sym (append-snoc (slice 1 (suc n) p) a (drop (suc n) p))
+      ∙ front-of (slice 1 (suc n) p ++ (a ∷ [])) p (suc n) (length-newest p n a h)

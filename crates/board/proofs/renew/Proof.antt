@@ -52,7 +52,7 @@ returns : tie.Need-returns Inv-loop μ-loop
 returns c =
     let v = c .before .loop .inv in
     let e : c .before .loop .i ≡ 255 = omega arith in
-    rw (v .2, e) (front-newest (c .before .before .args .a) (c .before .before .args .e) noEntry (v .1))
+    rw (v .2, e) (front-newest (c .before .before .args .a) 255 (c .before .before .args .e) noEntry (omega (arith, v .1)))
 
 pub renew-spec : {M : Type 1} → statement M
 renew-spec =
