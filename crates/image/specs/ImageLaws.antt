@@ -1,17 +1,19 @@
 -- Laws of the index image: the packed word, the check word, the words of a list of bodies. Assumes nothing.
 use mathlib.Core.Path.{_≡_, refl, sym, ap, _∙_}
-use mathlib.Core.Bool.{Bool, true, false}
-use mathlib.Core.List.{List, [], _∷_, _++_, map, append-assoc}
+use mathlib.Core.Bool.{Bool, true, false, not}
+use mathlib.Core.List.{List, [], _∷_, _++_, append-assoc}
 use Prim.Native.Nat.{ℕ, zero, suc, _+_, _*_, _-_, _%_, _/_, _^_, _≤_, _<_}
 use native.Mathlib.Nat.{zero-add}
 use native.Mathlib.Omega.{arith}
 use lib.Bits.{bitAnd, bitOr, and-mask, or-shifted}
 use lib.ListN.{length, getD, drop, length-append, length-map, List·getD-append}
 use lib.Seq.{sets, getD-append-add, ext-getD}
-use borrow.Author.Tests.{eq-eqb, ne-eqb, le-ltb}
+use borrow.Author.Tests.{eq-eqb, ne-eqb, le-ltb, ltb-false}
+use lib.Dec.{ltb, eqb}
+use Rattle.lists.specs.Choice.{or-no, cond-none}
 use Rattle.lists.specs.Members.{_∈_, numbers, numbers-length, getD-numbers, getD-in}
 use Rattle.lists.specs.Stores.{front, front-is, sets-front, sets-before, getD-mapped}
-use Rattle.image.specs.Layout.{nodeCount, bodyAt, numeralAt, rowAt, sizeAt, parentAt, rootAt, wordAt, levelAt, closingAt, orphanAt, bit, packed, levelOf, closingOf, orphanOf, bodyWords, flat, checked, contentsWords, imageWords, bodyOf, bodiesOf, badContents}
+use Rattle.image.specs.Layout.{nodeCount, bodyAt, numeralAt, rowAt, sizeAt, parentAt, rootAt, wordAt, levelAt, closingAt, orphanAt, bit, packed, levelOf, closingOf, orphanOf, bodyWords, flat, checked, contentsWords, imageWords, bodyOf, bodiesOf, badContents, contentsRefusal}
 use Rattle.image.specs.declared.Body.{Body}
 
 -- ---- the packed word
@@ -63,6 +65,15 @@ pub checked-append : (c : ℕ) (xs ys : List ℕ) → checked c (xs ++ ys) ≡ c
 unfolding checked
 checked-append c [] ys = refl
 checked-append c (x ∷ xs) ys = checked-append ((c + x) % 2 ^ 32) xs ys
+
+-- one word more
+pub checked-next : (c w x : ℕ) (ws : List ℕ) → x ≡ (c + w) % 2 ^ 32 → checked x ws ≡ checked c (w ∷ ws)
+unfolding checked
+checked-next c w x ws e = ap (λ (k : ℕ). checked k ws) e
+
+pub checked-none : (c : ℕ) → c ≡ checked c []
+unfolding checked
+checked-none c = refl
 
 checked-first : (c x : ℕ) (ys : List ℕ) → checked ((c + x) % 2 ^ 32) ys ≡ checked (checked c ys) (x ∷ [])
 unfolding checked
@@ -237,3 +248,22 @@ module _ {s : List ℕ} {bs : List Body} (h : Holds s bs) where
       ∙ ap (bodyOf s) (getD-numbers 1 (nodeCount s) i (omega arith))
       ∙ body-read (1 + i) d (omega arith) (omega arith) small
       ∙ ap (λ (j : ℕ). getD bs j d) back)
+
+-- ---- what an index that is not refused 13 gives
+
+pub record Contents (s : List ℕ) : Type 0 where
+  pub long : 8 ≤ length s
+  pub few : nodeCount s ≤ 65535
+  pub room : 8 + 6 * nodeCount s ≤ length s
+
+pub contents : (s : List ℕ) → badContents s ≡ false → Contents s
+unfolding badContents
+contents s e =
+    let e1 = or-no (ltb (length s) 8) _ e in
+    let e2 = or-no (not (eqb (getD s 1 0) 8)) _ (e1 .1) in
+    let e3 = or-no (not (eqb (getD s 2 0) 6)) _ (e2 .1) in
+    let e4 = or-no (ltb 65535 (nodeCount s)) _ (e3 .1) in
+    record { long = ltb-false _ _ (e1 .0); few = ltb-false _ _ (e4 .0); room = ltb-false _ _ (e4 .1) }
+
+pub contents-of : (s : List ℕ) → contentsRefusal s ≡ 0 → badContents s ≡ false
+contents-of s e = cond-none (badContents s) 13 0 (omega arith) e .0

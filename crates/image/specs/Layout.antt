@@ -1,5 +1,5 @@
 -- Paper 01, "Index image": the words of an index image and what they mean. Assumes nothing: these are definitions.
-use Prim.Native.Nat.{ℕ, zero, suc, _+_, _*_, _-_, _%_, _/_, _^_}
+use Prim.Native.Nat.{ℕ, _+_, _*_, _-_, _%_, _/_, _^_}
 use mathlib.Core.List.{List, [], _∷_, _++_, map}
 use mathlib.Core.Bool.{Bool, true, false, cond, _||_, not}
 use lib.ListN.{length, getD}

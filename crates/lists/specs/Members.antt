@@ -7,7 +7,7 @@ use Prim.Native.Nat.{ℕ, zero, suc, _+_, _*_, _≤_, _<_}
 use native.Mathlib.Omega.{arith}
 use native.Mathlib.Decide.{ℕ-discrete}
 use lib.Dec.{T}
-use lib.ListN.{length, getD, take, drop, length-append}
+use lib.ListN.{length, getD, take, drop}
 use lib.Seq.{take-add}
 use lib.IntN.{ℤ, pos, _+ℤ_, _-ℤ_, +ℤ-assoc, +ℤ-idl, +ℤ-idr, +ℤ-comm, +ℤ-negℤ-cancel}
 use lib.Signed.{mag}
@@ -143,6 +143,10 @@ module _ {A : Type 0} where
   getD-in (x ∷ l) zero d h = inl refl
   getD-in (x ∷ l) (suc i) d h = inr (getD-in l i d (omega arith))
 
+  pub getD-append-right : (l m : List A) (i : ℕ) (d : A) → getD (l ++ m) (length l + i) d ≡ getD m i d
+  getD-append-right [] m i d = ap (λ (k : ℕ). getD m k d) (omega arith)
+  getD-append-right (x ∷ l) m i d = let e : length (x ∷ l) + i ≡ suc (length l + i) = omega arith in ap (λ (k : ℕ). getD (x ∷ l ++ m) k d) e ∙ getD-append-right l m i d
+
   pub filter-in : (f : A → Bool) (l : List A) (y : A) → y ∈ l → T (f y) → y ∈ filter f l
   filter-in f [] y m t = absurd m
   filter-in f (x ∷ l) y (inl e) t = subst (λ z. z ∈ keep (f x) x (filter f l)) (sym e) (keep-head (f x) x (filter f l) (subst (λ z. T (f z)) e t))
@@ -214,9 +218,18 @@ module _ {A B : Type 0} where
   map-cong g h e [] = refl
   map-cong g h e (x ∷ l) = ap₂ _∷_ (e x) (map-cong g h e l)
 
+  -- two functions that agree on the list
+  pub map-agree : (g h : A → B) (l : List A) → ((x : A) → x ∈ l → g x ≡ h x) → map g l ≡ map h l
+  map-agree g h [] e = refl
+  map-agree g h (x ∷ l) e = ap₂ _∷_ (e x (inl refl)) (map-agree g h l (λ y m. e y (inr m)))
+
   abbrev pub flatMap : (A → List B) → List A → List B
   flatMap g [] = []
   flatMap g (x ∷ l) = g x ++ flatMap g l
+
+  pub flatMap-agree : (g h : A → List B) (l : List A) → ((x : A) → x ∈ l → g x ≡ h x) → flatMap g l ≡ flatMap h l
+  flatMap-agree g h [] e = refl
+  flatMap-agree g h (x ∷ l) e = ap₂ _++_ (e x (inl refl)) (flatMap-agree g h l (λ y m. e y (inr m)))
 
   pub flatMap-append : (g : A → List B) (l m : List A) → flatMap g (l ++ m) ≡ flatMap g l ++ flatMap g m
   flatMap-append g [] m = refl
@@ -449,6 +462,56 @@ module _ {A : Type 0} (f : A → Bool) where
   leads-filter (suc n) [] m = absurd m
   leads-filter (suc n) (x ∷ l) m = keep-yes (f x) x (filter f l) (m .0) ∙ ap (λ t. x ∷ t) (leads-filter n l (m .1))
 
+-- ---- more than one element passes
+
+-- two different places of a list pass a test exactly when more than one element does
+module _ {A : Type 0} (f : A → Bool) where
+  length-yes : (x : A) (l : List A) → T (f x) → length (filter f (x ∷ l)) ≡ suc (length (filter f l))
+  length-yes x l t = ap length (keep-yes (f x) x (filter f l) t)
+
+  length-no : (x : A) (l : List A) → (T (f x) → ⊥) → length (filter f (x ∷ l)) ≡ length (filter f l)
+  length-no x l n = ap length (keep-no (f x) x (filter f l) n)
+
+  passes : (l : List A) (d : A) (i : ℕ) → i < length l → T (f (getD l i d)) → 0 < length (filter f l)
+  passes [] d i h t = absurd (omega arith)
+  passes (x ∷ l) d zero h t = omega (arith, length-yes x l t)
+  passes (x ∷ l) d (suc i) h t = go (f x) (passes l d i (omega arith) t)
+    where
+      go : (b : Bool) → 0 < length (filter f l) → 0 < length (keep b x (filter f l))
+      go true r = omega arith
+      go false r = r
+
+  found : (l : List A) (d : A) → 0 < length (filter f l) → (i : ℕ) × (i < length l) × T (f (getD l i d))
+  found [] d h = absurd (omega arith)
+  found (x ∷ l) d h = go (f x) refl (found l d) h
+    where
+      go : (b : Bool) → f x ≡ b → (0 < length (filter f l) → (i : ℕ) × (i < length l) × T (f (getD l i d))) → 0 < length (keep b x (filter f l))
+          → (i : ℕ) × (i < length (x ∷ l)) × T (f (getD (x ∷ l) i d))
+      go true e rec k = (zero, omega arith, subst T (sym e) tt)
+      go false e rec k = let r = rec k in (suc (r .0), omega (arith, r .1), r .2)
+
+  pub two-places : (l : List A) (d : A) (i j : ℕ) → i < j → j < length l → T (f (getD l i d)) → T (f (getD l j d)) → 1 < length (filter f l)
+  two-places [] d i j h b s t = absurd (omega arith)
+  two-places (x ∷ l) d i zero h b s t = absurd (omega arith)
+  two-places (x ∷ l) d zero (suc j) h b s t = omega (arith, length-yes x l s, passes l d j (omega arith) t)
+  two-places (x ∷ l) d (suc i) (suc j) h b s t = go (f x) (two-places l d i j (omega arith) (omega arith) s t)
+    where
+      go : (b : Bool) → 1 < length (filter f l) → 1 < length (keep b x (filter f l))
+      go true r = omega arith
+      go false r = r
+
+  -- besides a place that passes, another
+  pub other-place : (l : List A) (d : A) (i : ℕ) → i < length l → T (f (getD l i d)) → 1 < length (filter f l) → (j : ℕ) × (j < length l) × (i ≢ j) × T (f (getD l j d))
+  other-place [] d i b s h = absurd (omega arith)
+  other-place (x ∷ l) d zero b s h =
+      let r = found l d (omega (arith, length-yes x l s)) in (suc (r .0), omega (arith, r .1), omega arith, r .2)
+  other-place (x ∷ l) d (suc i) b s h = go (f x) refl (other-place l d i (omega arith) s) h
+    where
+      go : (b : Bool) → f x ≡ b → (1 < length (filter f l) → (j : ℕ) × (j < length l) × (i ≢ j) × T (f (getD l j d))) → 1 < length (keep b x (filter f l))
+          → (j : ℕ) × (j < length (x ∷ l)) × (suc i ≢ j) × T (f (getD (x ∷ l) j d))
+      go true e rec k = (zero, omega arith, omega arith, subst T (sym e) tt)
+      go false e rec k = let r = rec k in (suc (r .0), omega (arith, r .1), omega (arith, r .2), r .3)
+
 -- ---- sums and running totals
 
 module _ {A : Type 0} (f : A → ℤ) where
@@ -489,3 +552,21 @@ take-in zero l x m = absurd m
 take-in (suc k) [] x m = absurd m
 take-in (suc k) (y ∷ l) x (inl e) = inl e
 take-in (suc k) (y ∷ l) x (inr m) = inr (take-in k l x m)
+
+-- totals of what two lists say alike
+pub totals-map : {A B : Type 0} (f : A → ℤ) (g : B → ℤ) (z : ℤ) (l : List A) (m : List B) → map f l ≡ map g m → totalsFrom f z l ≡ totalsFrom g z m
+totals-map f g z l m e = sym (plain f z l) ∙ ap (totalsFrom (λ t. t) z) e ∙ plain g z m
+  where
+    plain : {A : Type 0} (f : A → ℤ) (z : ℤ) (l : List A) → totalsFrom (λ t. t) z (map f l) ≡ totalsFrom f z l
+    plain f z [] = refl
+    plain f z (x ∷ l) = ap (λ t. z ∷ t) (plain f (z +ℤ f x) l)
+
+-- of a list without repetition, what stands before an element is not that element
+pub distinct-before : {A : Type 0} (a : List A) (x : A) (c : List A) → Increasing (λ u v. u ≢ v) (a ++ x ∷ c) → (q : A) → q ∈ a → q ≢ x
+distinct-before [] x c i q m = absurd m
+distinct-before (y ∷ a) x c i q (inl e) = subst (λ w. w ≢ x) (sym e) (i .0 x (there a x c))
+  where
+    there : {A : Type 0} (a : List A) (x : A) (c : List A) → x ∈ (a ++ x ∷ c)
+    there [] x c = inl refl
+    there (z ∷ a) x c = inr (there a x c)
+distinct-before (y ∷ a) x c i q (inr m) = distinct-before a x c (i .1) q m

@@ -6,7 +6,7 @@ use Prim.Native.Nat.{ℕ, zero, suc, _+_, _-_, _≤_, _<_}
 use native.Mathlib.Nat.{add-zero, zero-add, le-add-right, add-sub-of-le}
 use native.Mathlib.Numerals.{add-one}
 use native.Mathlib.Omega.{arith}
-use lib.ListN.{length, getD, set, take, drop, length-append, length-drop, length-set, drop-of-length-le}
+use lib.ListN.{length, getD, set, take, drop, length-append, length-drop, length-set, length-map, drop-of-length-le}
 use lib.Seq.{sets, sets-eq, set-comm, take-set-le, drop-set-add, take-set-lt, drop-set-lt, drop-cons, set-append-seam, take-append-seam}
 use borrow.Rule.Slice.PartMut.{midOf, postOf, putMid, put-same}
 
@@ -106,3 +106,7 @@ pub getD-mapped : {A B : Type 0} (f : A → B) (l : List A) (k : ℕ) (d : A) (e
 getD-mapped f [] k d e h = absurd (omega arith)
 getD-mapped f (x ∷ l) zero d e h = refl
 getD-mapped f (x ∷ l) (suc k) d e h = getD-mapped f l k d e (omega arith)
+
+-- a struct's field that is an array of structs is known to be long by the images of its elements
+pub length-mapped : {A B : Type 0} (f : A → B) (l : List A) (n : ℕ) → length (map f l) ≡ n → length l ≡ n
+length-mapped f l n h = sym (length-map l f) ∙ h

@@ -1,8 +1,9 @@
+-- `pack` meets its contract, is safe and ends. Assumes nothing.
 use Rattle.image.specs.ImageLaws.{pack-word, bit-le}
 use Rattle.image.specs.Layout.{bit}
 use Prim.Native.Nat.{ℕ, _+_, _*_, _%_, _^_}
 use native.Mathlib.Omega.{arith}
-use mathlib.Core.Path.{_≡_, refl, sym, ap, _∙_}
+use mathlib.Core.Path.{ap, _∙_}
 use borrow.Author.Needs.{needs}
 use Rattle.image.proofs.pack.Statement.{statement}
 use Rattle.image.proofs.pack.Tie as tie
@@ -10,15 +11,12 @@ use Rattle.image.proofs.pack.Reads as reads
 use Rattle.image.proofs.pack.Lts as lts
 use Rattle.image.proofs.bit_of.Reads as bit-of-reads
 
--- src/lib.rt:354:9
 bit-of-requires : tie.Need-bit-of-requires
 bit-of-requires c κs = search needs
 
--- src/lib.rt:355:9
 bit-of-requires-2 : tie.Need-bit-of-requires-2
 bit-of-requires-2 c κs = search needs
 
--- src/lib.rt:351:1
 returns : tie.Need-returns
 returns c =
     let x = c .before .before .args in

@@ -1,8 +1,9 @@
-use Rattle.orphans.proofs.Laws.{by-place, by-place-length}
+use Rattle.lists.specs.Counting.{by-place, by-place-length}
 use Rattle.orphans.specs.Flags.{maskedAt, maskedParents}
 use Rattle.lists.specs.Members.{numbers}
 use Rattle.lists.specs.Stores.{Filling, filling-start, filling-step, filling-end}
-use mathlib.Core.Path.{_≡_, refl, sym, _∙_}
+use mathlib.Core.Path.{_≡_, refl, sym, ap, _∙_}
+use native.Mathlib.Nat.{zero-add}
 use mathlib.Core.List.{map}
 use lib.ListN.{length-set}
 use borrow.Author.Needs.{needs}
@@ -20,7 +21,7 @@ abbrev μ-loop : tie.MeasureT-loop
 
 loop-holds : tie.Need-loop-holds Inv-loop μ-loop
 loop-holds c =
-    (filling-start _ _ (by-place-length _ _ ∙ c .before .before .before .before .pre), omega arith, refl)
+    (filling-start _ _ (by-place-length _ 0 _ ∙ c .before .before .before .before .pre), omega arith, refl)
 
 masked-at-requires : tie.Need-masked-at-requires Inv-loop μ-loop
 masked-at-requires c κs = search needs
@@ -41,7 +42,7 @@ loop-again : tie.Need-loop-again Inv-loop μ-loop
 loop-again c =
     let n : ℕ = length (c .before .before .before .before .before .before .before .args .rows .now) in
     let f : ℕ → ℕ = maskedAt (c .before .before .before .before .before .before .before .args .rows .now) (c .before .before .before .before .before .before .before .args .reached .now) (c .before .before .before .before .before .before .before .args .par .now) in
-    (filling-step _ _ _ _ 0 (omega (arith, by-place-length f n)) (c .before .before .loop .inv .0) (c .masked-at .ensures ∙ sym (by-place f n (c .before .before .loop .p) (c .before .loop-test .taken))), omega arith, simp length-set (c .before .before .loop .inv .2))
+    (filling-step _ _ _ _ 0 (omega (arith, by-place-length f 0 n)) (c .before .before .loop .inv .0) (c .masked-at .ensures ∙ sym (by-place f 0 n (c .before .before .loop .p) 0 (c .before .loop-test .taken) ∙ ap f (zero-add (c .before .before .loop .p)))), omega arith, simp length-set (c .before .before .loop .inv .2))
 
 same-length : tie.Need-same-length Inv-loop μ-loop
 same-length c =
@@ -52,7 +53,7 @@ unfolding maskedParents
 returns c =
     let n : ℕ = length (c .before .before .before .before .before .before .args .rows .now) in
     let f : ℕ → ℕ = maskedAt (c .before .before .before .before .before .before .args .rows .now) (c .before .before .before .before .before .before .args .reached .now) (c .before .before .before .before .before .before .args .par .now) in
-    filling-end _ _ _ (omega (arith, by-place-length f n)) (c .before .loop .inv .0)
+    filling-end _ _ _ (omega (arith, by-place-length f 0 n)) (c .before .loop .inv .0)
 
 pub mask-parents-spec : {M : Type 1} → statement M
 mask-parents-spec =

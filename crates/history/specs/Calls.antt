@@ -1,0 +1,24 @@
+-- The same calls on a board: what the edits answer, one after the other. Definitions only. Assumes nothing.
+use Prim.Native.Nat.{ℕ}
+use mathlib.Core.List.{List, [], _∷_}
+use Rattle.board.specs.declared.Board.{Board}
+use Rattle.board.specs.declared.Edited.{Edited}
+use Rattle.board.specs.Edits.{addOf, withdrawOf, remarkOf, undoOf}
+use Rattle.history.specs.declared.Call.{Call}
+use Rattle.history.specs.declared.Call.the-variants.{Add, Withdraw, Remark, Undo}
+
+abbrev pub edit : Board → Call → Edited
+edit b (Add r) = addOf b r
+edit b (Withdraw k) = withdrawOf b k
+edit b (Remark k minutes) = remarkOf b k minutes
+edit b Undo = undoOf b
+
+-- the refusal numbers of a list of calls, 0 for none; "each later call gets the board the last one returned"
+abbrev pub edits : Board → List Call → List ℕ
+edits b [] = []
+edits b (c ∷ cs) = edit b c .refusal ∷ edits (edit b c .board) cs
+
+-- the board after the list
+abbrev pub final : Board → List Call → Board
+final b [] = b
+final b (c ∷ cs) = final (edit b c .board) cs

@@ -1,0 +1,58 @@
+-- Calls as words, five to a call, and what `replay` answers: definitions only. Assumes nothing.
+use Prim.Native.Nat.{ℕ, zero, suc, _+_, _*_, _/_, _%_}
+use mathlib.Core.Bool.{Bool, true, cond, not, _&&_}
+use mathlib.Core.List.{List, [], _∷_, _++_}
+use lib.ListN.{length, getD}
+use lib.Dec.{eqb, leb, ltb}
+use mir.Syntax.{w32}
+use mir.Val.{toZ}
+use Rattle.lists.specs.Stores.{front}
+use Rattle.board.specs.Edits.{emptyOf}
+use Rattle.history.specs.declared.Call.{Call}
+use Rattle.history.specs.declared.Call.the-variants.{Add, Withdraw, Remark, Undo}
+use Rattle.history.specs.declared.Replayed.{Replayed}
+use Rattle.history.specs.Machine.{answers, start}
+use Rattle.history.specs.Calls.{final}
+
+-- Kind 0 is an add of the row parent a, numeral b, order c, minutes d; 1 a withdrawal of row number a; 2 a remark of row number a with minutes b;
+-- 3 an undo. Minutes are the bits of a signed number. Words that a call does not use are ignored.
+unfoldable pub callOf : ℕ → ℕ → ℕ → ℕ → ℕ → Call
+callOf kind a b c d =
+    cond (eqb kind 0) (Add (record { parent = a; numeral = b; order = c; minutes = toZ w32 d }))
+    (cond (eqb kind 1) (Withdraw a) (cond (eqb kind 2) (Remark a (toZ w32 b)) Undo))
+
+-- call i, counted from 0, stands in words 5 i to 5 i + 4
+abbrev pub kindAt : List ℕ → ℕ → ℕ
+kindAt words i = getD words (i * 5) 0
+
+unfoldable pub callAt : List ℕ → ℕ → Call
+callAt words i = callOf (kindAt words i) (getD words (i * 5 + 1) 0) (getD words (i * 5 + 2) 0) (getD words (i * 5 + 3) 0) (getD words (i * 5 + 4) 0)
+
+-- the first n calls, in order
+abbrev pub firstCalls : List ℕ → ℕ → List Call
+firstCalls words zero = []
+firstCalls words (suc n) = firstCalls words n ++ (callAt words n ∷ [])
+
+abbrev pub decoded : List ℕ → List Call
+decoded words = firstCalls words (length words / 5)
+
+-- each of the first n calls has a known kind
+abbrev pub allKnown : List ℕ → ℕ → Bool
+allKnown words zero = true
+allKnown words (suc n) = allKnown words n && leb (kindAt words n) 3
+
+-- 101: no whole number of calls; 102: a call of unknown kind; 103: fewer than one word for each refusal number; else 0.
+-- They are the replay's own and none of the paper's.
+unfoldable pub replayRefusal : List ℕ → ℕ → ℕ
+replayRefusal words room =
+    cond (not (eqb (length words % 5) 0)) 101 (cond (not (allKnown words (length words / 5))) 102 (cond (ltb room (length words / 5)) 103 0))
+
+-- the result: the board after the calls; the empty board where the words are refused
+unfoldable pub replayedOf : List ℕ → ℕ → Replayed
+replayedOf words room =
+    cond (eqb (replayRefusal words room) 0) (record { refusal = 0; calls = length words / 5; board = final emptyOf (decoded words) })
+    (record { refusal = replayRefusal words room; calls = 0; board = emptyOf })
+
+-- the lent words: the plain machine's refusal numbers, one for each call, 0 for none; the rest is as it was
+unfoldable pub refusalsOf : List ℕ → List ℕ → List ℕ
+refusalsOf words lent = cond (eqb (replayRefusal words (length lent)) 0) (front (answers start (decoded words)) lent) lent

@@ -1,0 +1,58 @@
+-- The plain machine: a list R of rows and a list K of earlier row lists, newest first. Definitions only, in the words of "Board and its plain machine". Assumes nothing.
+use Prim.Native.Nat.{ℕ, _-_}
+use mathlib.Core.Bool.{cond}
+use mathlib.Core.List.{List, [], _∷_, _++_}
+use lib.ListN.{length, take, getD, set}
+use lib.Dec.{eqb, leb}
+use Rattle.lists.specs.Moves.{without}
+use Rattle.board.specs.declared.Row.{Row}
+use Rattle.board.specs.Journal.{blank}
+use Rattle.board.specs.Edits.{noRow, remarked}
+use Rattle.history.specs.declared.Call.{Call}
+use Rattle.history.specs.declared.Call.the-variants.{Add, Withdraw, Remark, Undo}
+
+-- rows is R, earlier is K
+pub record Machine : Type 0 where
+  pub rows : List Row
+  pub earlier : List (List Row)
+
+-- a refusal number, 0 for none, and the machine after the call
+pub record Answer : Type 0 where
+  pub refusal : ℕ
+  pub machine : Machine
+
+-- "Empty: both are empty"
+abbrev pub start : Machine
+start = record { rows = []; earlier = [] }
+
+abbrev pub gives : ℕ → Machine → Answer
+gives n m = record { refusal = n; machine = m }
+
+-- "Each accepted add, withdraw or remark first puts the old R at the head of K. If K then has 257 lists the last is dropped"
+abbrev pub changes : Machine → List Row → Answer
+changes m rows = gives 0 (record { rows = rows; earlier = take 256 (m .rows ∷ m .earlier) })
+
+-- "Undo: R becomes the head of K, and K loses it"; refusal 5
+abbrev pub goesBack : Machine → List (List Row) → Answer
+goesBack m [] = gives 5 m
+goesBack m (rows ∷ earlier) = gives 0 (record { rows = rows; earlier = earlier })
+
+-- "Add: a row is put at the end of R", refusals 2 and 3; "Withdraw: row number k is taken out" and "Remark: row k gets new minutes", refusal 4.
+-- "A refused call changes nothing"
+abbrev pub answer : Machine → Call → Answer
+answer m (Add r) =
+    cond (eqb (r .numeral) 0) (gives 2 m) (cond (leb 1024 (length (m .rows))) (gives 3 m) (changes m (m .rows ++ (r ∷ []))))
+answer m (Withdraw k) = cond (noRow (length (m .rows)) k) (gives 4 m) (changes m (without (m .rows) (k - 1)))
+answer m (Remark k minutes) =
+    cond (noRow (length (m .rows)) k) (gives 4 m)
+    (changes m (set (m .rows) (k - 1) (remarked (getD (m .rows) (k - 1) blank) minutes)))
+answer m Undo = goesBack m (m .earlier)
+
+-- the refusal numbers of a list of calls, 0 for none, and the machine after the list
+abbrev pub answers : Machine → List Call → List ℕ
+answers m [] = []
+answers m (c ∷ cs) = answer m c .refusal ∷ answers (answer m c .machine) cs
+
+abbrev pub after : Machine → List Call → Machine
+after m [] = m
+after m (c ∷ cs) = after (answer m c .machine) cs

@@ -1,0 +1,156 @@
+// Calls on a board in order, from the empty board: as values, and as words, five to a call.
+ghost use mathlib.Core.Path.{_≡_};
+ghost use Prim.Native.Nat.{_*_, _≤_};
+ghost use lib.ListN.{length};
+ghost use mir.Syntax.{w32};
+ghost use mir.Val.{toZ};
+ghost use Rattle.lists.specs.Stores.{front};
+ghost use Rattle.board.specs.Edits.{emptyOf};
+ghost use Rattle.history.specs.Calls.{edit, edits, final};
+ghost use Rattle.history.specs.Encoding.{callOf, callAt, firstCalls, allKnown, replayRefusal, replayedOf, refusalsOf};
+use board::Board;
+use board::Edited;
+use board::Row;
+
+pub enum Call {
+    Add(Row),
+    Withdraw(usize),
+    Remark(usize, i32),
+    Undo,
+}
+
+// What `replay` answers: its own refusal number (101 to 103), or 0, the number of calls and the board after them.
+#[repr(C)]
+pub struct Replayed {
+    pub refusal: u32,
+    pub calls: usize,
+    pub board: Board,
+}
+
+pub fn apply(board: Board, call: Call) -> Edited
+    ensures { λ r. ⌜ r ≡ edit board call ⌝ }
+{
+    match call {
+        Call::Add(row) => board.add(row),
+        Call::Withdraw(k) => board.withdraw(k),
+        Call::Remark(k, minutes) => board.remark(k, minutes),
+        Call::Undo => board.undo(),
+    }
+}
+
+// The signed number that has these bits.
+fn signed(bits: u32) -> i32
+    ensures { λ r. ⌜ r ≡ toZ w32 bits ⌝ }
+{
+    if bits < 2147483648 {
+        return bits as i32;
+    }
+    let below = 4294967295 - bits;
+    -1 - (below as i32)
+}
+
+fn decode(kind: u32, a: u32, b: u32, c: u32, d: u32) -> Call
+    ensures { λ r. ⌜ r ≡ callOf kind a b c d ⌝ }
+{
+    if kind == 0 {
+        let row = Row {
+            parent: a,
+            numeral: b,
+            order: c,
+            minutes: signed(d),
+        };
+        return Call::Add(row);
+    }
+    if kind == 1 {
+        return Call::Withdraw(a as usize);
+    }
+    if kind == 2 {
+        return Call::Remark(a as usize, signed(b));
+    }
+    Call::Undo
+}
+
+// Call i of the words.
+fn call_at(words: &[u32], i: usize) -> Call
+    requires { ⌜ i * 5 ≤ length (now words) ⌝ }
+    ensures { λ r. ⌜ r ≡ callAt (now (words .entry)) i ⌝ }
+{
+    let at = i * 5;
+    decode(
+        lists::get(words, at),
+        lists::get(words, at + 1),
+        lists::get(words, at + 2),
+        lists::get(words, at + 3),
+        lists::get(words, at + 4),
+    )
+}
+
+// Whether each of the first n calls has a known kind.
+fn known(words: &[u32], n: usize) -> bool
+    requires { ⌜ n * 5 ≤ length (now words) ⌝ }
+    ensures { λ r. ⌜ r ≡ allKnown (now (words .entry)) n ⌝ }
+{
+    let mut i: usize = 0;
+    while i < n {
+        if 3 < lists::get(words, i * 5) {
+            return false;
+        }
+        i += 1;
+    }
+    true
+}
+
+fn replay_refusal(words: &[u32], room: usize) -> u32
+    ensures { λ r. ⌜ r ≡ replayRefusal (now (words .entry)) room ⌝ }
+{
+    if words.len() % 5 != 0 {
+        return 101;
+    }
+    let n = words.len() / 5;
+    if !known(words, n) {
+        return 102;
+    }
+    if room < n {
+        return 103;
+    }
+    0
+}
+
+// The board after the first n calls; the refusal number of each goes to the lent words.
+fn run(words: &[u32], n: usize, refusals: &mut [u32]) -> Board
+    requires { ⌜ (n * 5 ≤ length (now words)) × (n ≤ length (now refusals)) ⌝ }
+    ensures { λ r. ⌜ r ≡ final emptyOf (firstCalls (now (words .entry)) n) ⌝ }
+    ensures { λ _. ⌜ now (refusals .exit) ≡ front (edits emptyOf (firstCalls (now (words .entry)) n)) (now (refusals .entry)) ⌝ }
+{
+    let mut board = Board::EMPTY;
+    let mut i: usize = 0;
+    while i < n {
+        let edited = apply(board, call_at(words, i));
+        refusals[i] = edited.refusal;
+        board = edited.board;
+        i += 1;
+    }
+    board
+}
+
+// Runs the calls that the words tell, in order, from the empty board.
+pub fn replay(words: &[u32], refusals: &mut [u32]) -> Replayed
+    ensures { λ r. ⌜ r ≡ replayedOf (now (words .entry)) (length (now (refusals .entry))) ⌝ }
+    ensures { λ _. ⌜ now (refusals .exit) ≡ refusalsOf (now (words .entry)) (now (refusals .entry)) ⌝ }
+{
+    let refusal = replay_refusal(words, refusals.len());
+    if refusal != 0 {
+        return Replayed {
+            refusal: refusal,
+            calls: 0,
+            board: Board::EMPTY,
+        };
+    }
+    let n = words.len() / 5;
+    let board = run(words, n, refusals);
+    Replayed {
+        refusal: 0,
+        calls: n,
+        board: board,
+    }
+}

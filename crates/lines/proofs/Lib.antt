@@ -1,0 +1,4 @@
+pub mod Signed
+pub mod Ends
+pub mod Bytes
+pub mod Turn

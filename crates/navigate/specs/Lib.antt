@@ -1,0 +1,5 @@
+pub mod Navigate
+pub mod NavigateLaws
+pub mod Climb
+pub mod ClimbLaws
+pub mod Cases

@@ -1,0 +1,24 @@
+// What a build is asked and what it answers.
+
+// Which rows start a path: those with parent 0, or those whose numeral is in a lent list.
+pub enum Start {
+    ParentZero,
+    Listed,
+}
+
+// The refusal or 0, the number of nodes, and the number of rows that end no node.
+#[repr(C)]
+pub struct Built {
+    pub refusal: u32,
+    pub nodes: u32,
+    pub left: u32,
+}
+
+// The answer of a refused build.
+pub fn refused(number: u32) -> Built {
+    Built {
+        refusal: number,
+        nodes: 0,
+        left: 0,
+    }
+}

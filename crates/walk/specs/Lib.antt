@@ -1,0 +1,3 @@
+pub mod Walk
+pub mod WalkLaws
+pub mod Meaning
