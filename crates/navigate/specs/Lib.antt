@@ -3,3 +3,4 @@ pub mod NavigateLaws
 pub mod Climb
 pub mod ClimbLaws
 pub mod Cases
+pub mod HeldLaws

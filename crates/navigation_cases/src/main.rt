@@ -1,0 +1,326 @@
+// Runs each navigation call on the index of the listing of paper 01, and on slices that are damaged in one word; prints one line a case.
+use libc::STDOUT_FILENO;
+
+// That index with the six words of a body at a place.
+fn node(
+    index: [u32; 62],
+    at: usize,
+    numeral: u32,
+    row: u32,
+    size: u32,
+    parent: u32,
+    root: u32,
+    last: u32,
+) -> [u32; 62] {
+    let mut next = index;
+    if at < 57 {
+        next[at] = numeral;
+        next[at + 1] = row;
+        next[at + 2] = size;
+        next[at + 3] = parent;
+        next[at + 4] = root;
+        next[at + 5] = last;
+    }
+    next
+}
+
+// The image of the nine nodes that the listing prints.
+fn listing_index() -> [u32; 62] {
+    let mut index = [0u32; 62];
+    index[0] = 9;
+    index[1] = 8;
+    index[2] = 6;
+    index[3] = 440;
+    let index = node(index, 8, 10, 1, 8, 0, 1, image::pack(1, false, false));
+    let index = node(index, 14, 30, 3, 4, 1, 1, image::pack(2, false, false));
+    let index = node(index, 20, 40, 5, 3, 2, 1, image::pack(3, false, false));
+    let index = node(index, 26, 20, 6, 2, 3, 1, image::pack(4, false, false));
+    let index = node(index, 32, 40, 4, 1, 4, 1, image::pack(5, true, false));
+    let index = node(index, 38, 20, 2, 3, 1, 1, image::pack(2, false, false));
+    let index = node(index, 44, 40, 4, 2, 6, 1, image::pack(3, false, false));
+    let index = node(index, 50, 20, 6, 1, 7, 1, image::pack(4, true, false));
+    node(index, 56, 91, 7, 1, 0, 9, image::pack(1, false, true))
+}
+
+fn listing_totals() -> [i64; 10] {
+    [0, 5, 9, 10, 9, 11, 14, 16, 15, 22]
+}
+
+// That index with one word changed.
+fn damaged(at: usize, word: u32) -> [u32; 62] {
+    let mut index = listing_index();
+    if at < 62 {
+        index[at] = word;
+    }
+    index
+}
+
+// Those totals with one changed.
+fn changed(at: usize, total: i64) -> [i64; 10] {
+    let mut totals = listing_totals();
+    if at < 10 {
+        totals[at] = total;
+    }
+    totals
+}
+
+fn say(text: &[u8]) {
+    io::write_all(STDOUT_FILENO, text);
+}
+
+fn number(n: u64) {
+    io::print_decimal(STDOUT_FILENO, n);
+}
+
+fn word(n: u32) {
+    number(n as u64);
+}
+
+fn signed(n: i64) {
+    if n < 0 {
+        say(b"-");
+    }
+    number(printing::magnitude(n));
+}
+
+fn words(list: &[u32]) {
+    let mut i: usize = 0;
+    while i < list.len() {
+        say(b" ");
+        word(list[i]);
+        i += 1;
+    }
+    say(b"\n");
+}
+
+fn refused(refusal: u32) {
+    say(b": refusal ");
+    word(refusal);
+}
+
+fn wide(n: i32) -> i64 {
+    n as i64
+}
+
+fn limits(name: &[u8], rank: u32, lo: i32, hi: i32) {
+    say(name);
+    word(rank);
+    say(b" from ");
+    signed(wide(lo));
+    say(b" to ");
+    signed(wide(hi));
+}
+
+fn descendants(index: &[u32], rank: u32, lo: i32, hi: i32, from: usize) {
+    let mut space = [7u32; 9];
+    let all: &mut [u32] = &mut space;
+    if all.len() < from {
+        return;
+    }
+    let found = navigate::descendants(index, rank, lo, hi, &mut all[from..]);
+    limits(b"descendants of ", rank, lo, hi);
+    refused(found.refusal);
+    say(b" length ");
+    number(found.len as u64);
+    say(b" slice");
+    words(all);
+}
+
+fn ancestors(index: &[u32], rank: u32, lo: i32, hi: i32, from: usize) {
+    let mut space = [7u32; 9];
+    let all: &mut [u32] = &mut space;
+    if all.len() < from {
+        return;
+    }
+    let found = navigate::ancestors(index, rank, lo, hi, &mut all[from..]);
+    limits(b"ancestors of ", rank, lo, hi);
+    refused(found.refusal);
+    say(b" length ");
+    number(found.len as u64);
+    say(b" links ");
+    number(found.links as u64);
+    say(b" slice");
+    words(all);
+}
+
+fn siblings(index: &[u32], rank: u32, from: usize) {
+    let mut space = [7u32; 9];
+    let all: &mut [u32] = &mut space;
+    if all.len() < from {
+        return;
+    }
+    let found = navigate::siblings(index, rank, &mut all[from..]);
+    say(b"siblings of ");
+    word(rank);
+    refused(found.refusal);
+    say(b" length ");
+    number(found.len as u64);
+    say(b" slice");
+    words(all);
+}
+
+fn span(index: &[u32], rank: u32) {
+    say(b"span of ");
+    word(rank);
+    refused(navigate::span_refusal(index, rank));
+    say(b" words");
+    words(navigate::span(index, rank));
+}
+
+fn subtree_sum(index: &[u32], totals: &[i64], rank: u32) {
+    let found = sums::subtree_sum(index, totals, rank);
+    say(b"subtree sum of ");
+    word(rank);
+    refused(found.refusal);
+    say(b" sum ");
+    signed(found.sum);
+    say(b"\n");
+}
+
+fn path_sum(index: &[u32], totals: &[i64], rank: u32) {
+    let found = sums::path_sum(index, totals, rank);
+    say(b"path sum of ");
+    word(rank);
+    refused(found.refusal);
+    say(b" sum ");
+    signed(found.sum);
+    say(b"\n");
+}
+
+// Every call on one index.
+fn each_call(title: &[u8], index: &[u32], totals: &[i64], rank: u32) {
+    say(title);
+    say(b"\n");
+    span(index, rank);
+    descendants(index, rank, 0, 9, 0);
+    ancestors(index, rank, -9, 0, 0);
+    siblings(index, rank, 0);
+    subtree_sum(index, totals, rank);
+    path_sum(index, totals, rank);
+}
+
+// Every call on the first words of an index and the first of its totals.
+fn short(title: &[u8], index: &[u32], length: usize, totals: &[i64], held: usize) {
+    if index.len() < length {
+        return;
+    }
+    if totals.len() < held {
+        return;
+    }
+    each_call(title, &index[..length], &totals[..held], 1);
+}
+
+fn ranks() {
+    let index = listing_index();
+    let totals = listing_totals();
+    each_call(b"rank 1", &index, &totals, 1);
+    each_call(b"rank 5", &index, &totals, 5);
+    each_call(b"rank 9", &index, &totals, 9);
+}
+
+fn no_ranks() {
+    let index = listing_index();
+    let totals = listing_totals();
+    each_call(b"rank 0", &index, &totals, 0);
+    each_call(b"rank 10", &index, &totals, 10);
+    each_call(b"rank 4294967295", &index, &totals, 4294967295);
+}
+
+fn limits_of_lists() {
+    let index = listing_index();
+    say(b"limits\n");
+    descendants(&index, 2, 2, 3, 0);
+    ancestors(&index, 5, -4, 0, 0);
+    ancestors(&index, 5, -4, -3, 0);
+    descendants(&index, 1, 1, 1, 0);
+}
+
+fn wide_limits() {
+    let index = listing_index();
+    say(b"a lower limit above the upper, no places; the widest limits, eight places\n");
+    descendants(&index, 1, 3, 2, 9);
+    descendants(&index, 1, -2147483648, 2147483647, 1);
+}
+
+fn short_lists() {
+    let index = listing_index();
+    say(b"one place too few\n");
+    descendants(&index, 1, 0, 9, 2);
+    ancestors(&index, 5, -4, 0, 5);
+    siblings(&index, 1, 8);
+}
+
+fn short_slices() {
+    let index = listing_index();
+    let totals = listing_totals();
+    short(b"seven words", &index, 7, &totals, 10);
+    short(b"one word too few", &index, 61, &totals, 10);
+    short(b"nine totals", &index, 62, &totals, 9);
+}
+
+fn with_word(title: &[u8], at: usize, word: u32, rank: u32) {
+    let index = damaged(at, word);
+    let totals = listing_totals();
+    each_call(title, &index, &totals, rank);
+}
+
+fn damaged_contents() {
+    with_word(b"word 1 is 7", 1, 7, 1);
+    with_word(b"word 2 is 5", 2, 5, 1);
+    with_word(b"n is 10", 0, 10, 1);
+    with_word(b"n is 65536", 0, 65536, 1);
+    with_word(b"n is 4294967295", 0, 4294967295, 1);
+}
+
+fn damaged_bodies() {
+    with_word(b"size 0", 16, 0, 2);
+    with_word(b"an end at n", 16, 8, 2);
+    with_word(b"an end above n", 16, 9, 2);
+    with_word(b"size 4294967295", 16, 4294967295, 2);
+    with_word(b"a parent rank that is its own", 17, 2, 2);
+    with_word(
+        b"a parent rank above n, met on the climb",
+        17,
+        4294967295,
+        4,
+    );
+    with_word(b"level 65535, bits 16 to 29 set", 19, 1073741823, 2);
+}
+
+fn with_total(title: &[u8], at: usize, total: i64) {
+    let index = listing_index();
+    let totals = changed(at, total);
+    subtotal(title, &index, &totals);
+}
+
+// Both sums of rank 1.
+fn subtotal(title: &[u8], index: &[u32], totals: &[i64]) {
+    say(title);
+    say(b"\n");
+    subtree_sum(index, totals, 1);
+    path_sum(index, totals, 1);
+}
+
+fn damaged_totals() {
+    with_total(b"a total of 2^47", 8, 140737488355328);
+    with_total(b"a total of 2^47 + 1", 8, 140737488355329);
+    with_total(b"a total of -2^47", 0, -140737488355328);
+    with_total(b"a total of -2^47 - 1", 0, -140737488355329);
+    with_total(b"a total that is not used", 9, 9223372036854775807);
+    with_total(b"own minutes of 2147483647", 1, 2147483647);
+    with_total(b"own minutes of 2147483648", 1, 2147483648);
+    with_total(b"own minutes of -2147483648", 1, -2147483648);
+    with_total(b"own minutes of -2147483649", 1, -2147483649);
+}
+
+fn main() {
+    ranks();
+    no_ranks();
+    limits_of_lists();
+    wide_limits();
+    short_lists();
+    short_slices();
+    damaged_contents();
+    damaged_bodies();
+    damaged_totals();
+}
