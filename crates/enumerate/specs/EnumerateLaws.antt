@@ -1,0 +1,420 @@
+-- The enumeration leaves the bodies of the paper's nodes, under each orphan choice. Assumes nothing.
+use mathlib.Core.Path.{_≡_, refl, sym, ap, ap₂, _∙_, subst}
+use mathlib.Core.Logic.{_≢_, _⊎_, inl, inr, ⊎-elim}
+use mathlib.Core.Bool.{Bool, true, false, cond, not}
+use mathlib.Core.List.{List, [], _∷_, _++_, map, append-assoc, append-nil}
+use Prim.Native.Nat.{ℕ, zero, suc, _+_, _-_, _*_, _%_, _^_, _≤_, _<_, min}
+use native.Mathlib.Nat.{zero-add}
+use native.Mathlib.Numerals.{add-one}
+use native.Mathlib.Omega.{arith}
+use native.Mathlib.Decide.{ℕ-discrete, decLt}
+use borrow.Author.Tests.{eq-eqb, ne-eqb}
+use lib.Dec.{T, eqb, eqb→eq}
+use lib.ListN.{length, getD, set, length-append, length-map}
+use lib.Seq.{sets, ext-getD, length-sets, take-length}
+use Rattle.lists.specs.Members.{_∈_, filter, keep, filter-none, filter-append, map-append, numbers, numbers-out, getD-in, keep-yes}
+use Rattle.lists.specs.Counting.{by-place, by-place-length}
+use Rattle.lists.specs.Stores.{getD-mapped}
+use Rattle.board.specs.declared.Row.{Row}
+use Rattle.image.specs.declared.Body.{Body}
+use Rattle.image.specs.Layout.{bodyAt, rowAt, bodyWords, flat, checked}
+use Rattle.image.specs.ImageLaws.{length-flat}
+use Rattle.options.specs.declared.Depth.{Depth}
+use Rattle.options.specs.declared.Depth.the-variants.{None}
+use Rattle.options.specs.Options.{levelLimit}
+use Rattle.paths.specs.Forest.{memb, next}
+use Rattle.paths.specs.Rows.{row as boardRow, num, par, RowOf}
+use Rattle.paths.specs.Paths.{last, ignore, error, adopt, root}
+use Rattle.paths.specs.Nodes.{sorted, starts, regular, orphanRows, tops, nodes}
+use Rattle.paths.specs.Emit.{emit, orElse}
+use Rattle.paths.specs.Bodies.{mkBody, bodies}
+use Rattle.paths.specs.EmitLaws.{emit-nil}
+use Rattle.paths.specs.BodyWalks.{bodies-ignore, bodies-error, bodies-root}
+use Rattle.paths.specs.AdoptWalks.{bodies-adopt, bodies-adopt-none}
+use Rattle.paths.specs.BodyLaws.{regular-rows}
+use Rattle.paths.specs.Bounds.{bodies-bounded}
+use Rattle.paths.specs.Refusals.{orphanChoice}
+use Rattle.links.specs.Links.{bit as flagOf}
+use Rattle.links.specs.Children.{child-long, parent-long}
+use Rattle.links.specs.Starts.{flagged-rows}
+use Rattle.orphans.specs.Flags.{lastFlag, lastBelow}
+use Rattle.passes.specs.Passes.{Named, rowsTo}
+use Rattle.walk.specs.Walk.{Rows, rowOf, Hung, Marked, Clear, Walked, nodeBody, flagged}
+use Rattle.walk.specs.WalkLaws.{emit-append, walked-join, clear-marked}
+use Rattle.walk.specs.Meaning.{hung}
+use Rattle.walk.specs.declared.Met.{Met}
+use Rattle.enumerate.specs.declared.Begun.{Begun}
+use Rattle.enumerate.specs.Enumerate.{Ready, StartFlags, Starting, StartsWalked, outside, topsAmong, orphanLevel, orphansFrom, Raised, Adopted}
+use Rattle.enumerate.specs.WalkJoins.{getD-inside, flagged-split, walked-longer, sized, written-sized, size-written, check-raised}
+use Rattle.enumerate.specs.OrphanLaws.{row-count}
+
+-- ---- the rows of the bodies written so far
+
+flat-row : (L : List Body) (k : ℕ) (d : Body) → k < length L → getD (flat L) (6 * k + 1) 0 ≡ getD L k d .row
+unfolding flat bodyWords
+flat-row [] k d h = absurd (omega arith)
+flat-row (b ∷ L) zero d h = refl
+flat-row (b ∷ L) (suc k) d h =
+    let e : 6 * suc k + 1 ≡ suc (suc (suc (suc (suc (suc (6 * k + 1)))))) = omega arith in
+    ap (λ (j : ℕ). getD (flat (b ∷ L)) j 0) e ∙ flat-row L k d (omega arith)
+
+abbrev noBody : Body
+noBody = record { numeral = 0; row = 0; size = 0; parent = 0; root = 0; level = 0; closing = false; orphan = false }
+
+pub row-written : (ix : List ℕ) (L : List Body) (k : ℕ) (d : Body) → 8 + 6 * length L ≤ length ix → k < length L → rowAt (sets ix 8 (flat L)) (1 + k) ≡ getD L k d .row
+row-written ix L k d room h =
+    let e : bodyAt (1 + k) + 1 ≡ 8 + (6 * k + 1) = omega arith in
+    ap (λ (j : ℕ). getD (sets ix 8 (flat L)) j 0) e
+    ∙ getD-inside ix 8 (flat L) (6 * k + 1) 0 (omega (arith, length-flat L)) (omega (arith, length-flat L))
+    ∙ flat-row L k d h
+
+pub rows-written : (ix : List ℕ) (L : List Body) → 8 + 6 * length L ≤ length ix → rowsTo (sets ix 8 (flat L)) (length L) ≡ map (λ (b : Body). b .row) L
+unfolding rowsTo
+rows-written ix L room =
+    ext-getD 0 (map (rowAt (sets ix 8 (flat L))) (numbers 1 (length L))) (map (λ (b : Body). b .row) L)
+    (by-place-length (rowAt (sets ix 8 (flat L))) 1 (length L) ∙ sym (length-map L (λ (b : Body). b .row)))
+    (λ i h. at i (omega (arith, by-place-length (rowAt (sets ix 8 (flat L))) 1 (length L))))
+  where
+    at : (i : ℕ) → i < length L → getD (map (rowAt (sets ix 8 (flat L))) (numbers 1 (length L))) i 0 ≡ getD (map (λ (b : Body). b .row) L) i 0
+    at i h = by-place (rowAt (sets ix 8 (flat L))) 1 (length L) i 0 h ∙ row-written ix L i noBody room h ∙ sym (getD-mapped (λ (b : Body). b .row) L i noBody 0 h)
+
+-- ---- the last flag
+
+last-holds : (flags : List ℕ) (k : ℕ) → k ≤ length flags → lastBelow flags k < length flags
+    → (lastBelow flags k < k) × (getD flags (lastBelow flags k) 0 ≡ 1) × ((q : ℕ) → lastBelow flags k < q → q < k → getD flags q 0 ≢ 1)
+last-holds flags zero h b = absurd (omega arith)
+last-holds flags (suc k) h b = go (λ c. last-holds flags k (omega arith) c) (eqb (getD flags k 0) 1) refl b
+  where
+    go : (lastBelow flags k < length flags → (lastBelow flags k < k) × (getD flags (lastBelow flags k) 0 ≡ 1) × ((q : ℕ) → lastBelow flags k < q → q < k → getD flags q 0 ≢ 1)) → (t : Bool) → eqb (getD flags k 0) 1 ≡ t → cond t k (lastBelow flags k) < length flags
+        → (cond t k (lastBelow flags k) < suc k) × (getD flags (cond t k (lastBelow flags k)) 0 ≡ 1) × ((q : ℕ) → cond t k (lastBelow flags k) < q → q < suc k → getD flags q 0 ≢ 1)
+    go rec true e b = (omega arith, eqb→eq (getD flags k 0) 1 (subst T (sym e) tt), (λ q a c. absurd (omega arith)))
+    go rec false e b =
+        let r = rec b in
+        (omega (arith, r .0), r .1, (λ q a c. later q a c (ℕ-discrete q k) (r .2 q a)))
+      where
+        later : (q : ℕ) → lastBelow flags k < q → q < suc k → Dec (q ≡ k) → (q < k → getD flags q 0 ≢ 1) → getD flags q 0 ≢ 1
+        later q a c (yes z) rest = λ o. subst T e (subst (λ (n : ℕ). T (eqb n 1)) (sym (ap (λ (j : ℕ). getD flags j 0) (sym z) ∙ o)) tt)
+        later q a c (no n) rest = rest (omega arith)
+
+last-none : (flags : List ℕ) (k : ℕ) → k ≤ length flags → length flags ≤ lastBelow flags k → (q : ℕ) → q < k → getD flags q 0 ≢ 1
+last-none flags zero h b q l = absurd (omega arith)
+last-none flags (suc k) h b q l = go (λ c d. last-none flags k (omega arith) c q d) (eqb (getD flags k 0) 1) refl b
+  where
+    go : (length flags ≤ lastBelow flags k → q < k → getD flags q 0 ≢ 1) → (t : Bool) → eqb (getD flags k 0) 1 ≡ t → length flags ≤ cond t k (lastBelow flags k) → getD flags q 0 ≢ 1
+    go rec true e b = absurd (omega arith)
+    go rec false e b = at (ℕ-discrete q k)
+      where
+        at : Dec (q ≡ k) → getD flags q 0 ≢ 1
+        at (yes z) = λ o. subst T e (subst (λ (n : ℕ). T (eqb n 1)) (sym (ap (λ (j : ℕ). getD flags j 0) (sym z) ∙ o)) tt)
+        at (no n) = rec b (omega arith)
+
+one-flagged : (flags : List ℕ) (n : ℕ) → n ≡ length flags → lastFlag flags < n → flagged flags (lastFlag flags) n ≡ lastFlag flags ∷ []
+unfolding flagged lastFlag
+one-flagged flags n e h =
+    let p : ℕ = lastBelow flags (length flags) in
+    let r = last-holds flags (length flags) (omega arith) (omega arith) in
+    let m : n - p ≡ suc (n - p - 1) = omega arith in
+    let f : ℕ → Bool = λ (q : ℕ). eqb (getD flags q 0) 1 in
+    ap (λ (j : ℕ). filter f (numbers p j)) m
+    ∙ ap (λ (b : Bool). keep b p (filter f (numbers (suc p) (n - p - 1)))) (eq-eqb (getD flags p 0) 1 (r .1))
+    ∙ ap (λ (l : List ℕ). p ∷ l) (filter-none f (numbers (suc p) (n - p - 1)) (λ y m t. let b = numbers-out (suc p) (n - p - 1) y m in r .2 y (omega (arith, b)) (omega (arith, b)) (eqb→eq (getD flags y 0) 1 t)))
+
+none-flagged : (flags : List ℕ) (n : ℕ) → n ≡ length flags → n ≤ lastFlag flags → flagged flags 0 n ≡ []
+unfolding flagged lastFlag
+none-flagged flags n e h =
+    let f : ℕ → Bool = λ (q : ℕ). eqb (getD flags q 0) 1 in
+    filter-none f (numbers 0 (n - 0)) (λ y m t. let b = numbers-out 0 (n - 0) y m in last-none flags (length flags) (omega arith) (omega arith) y (omega (arith, b)) (eqb→eq (getD flags y 0) 1 t))
+
+-- ---- the nodes of a board
+
+abbrev regularFor : List Row → (Row → Bool) → Depth → List Body
+regularFor R start d = emit (mkBody R false) (num R) (par R) (sorted R) (levelLimit d (length R)) [] (starts R start) 0 0 1 1
+
+abbrev orphansFor : List Row → List ℕ → ℕ → ℕ → ℕ → List Body
+orphansFor R ends rank level k = emit (mkBody R true) (num R) (par R) (outside R ends) (suc (length R)) [] (topsAmong R ends) rank rank level k
+
+root-bodies : (R : List Row) (start : Row → Bool) → bodies R start None root ≡ regularFor R start None ++ orphansFor R (map last (regular R start None)) 0 1 (suc (length (regularFor R start None)))
+unfolding levelLimit orphanRows tops
+root-bodies R start = bodies-root R start
+
+-- the start rows before the last, the last one's subtree
+abbrev firstFor : List Row → List ℕ → List Body
+firstFor R s = emit (mkBody R false) (num R) (par R) (sorted R) (levelLimit None (length R)) [] s 0 0 1 1
+
+abbrev ownFor : List Row → ℕ → ℕ → List Body
+ownFor R a rank = emit (mkBody R false) (num R) (par R) (sorted R) (length R) (num R a ∷ []) (next (num R) (par R) (sorted R) [] a) rank rank 2 (suc rank)
+
+adopt-bodies : (R : List Row) (start : Row → Bool) (s : List ℕ) (a : ℕ) → starts R start ≡ s ++ (a ∷ []) → (rank k : ℕ) → rank ≡ suc (length (firstFor R s)) → k ≡ suc rank + length (ownFor R a rank)
+    → bodies R start None adopt ≡ firstFor R s ++ (mkBody R false a (suc (length (ownFor R a rank) + length (orphansFor R (map last (regular R start None)) rank 2 k))) 0 rank 1 false ∷ (ownFor R a rank ++ orphansFor R (map last (regular R start None)) rank 2 k))
+unfolding levelLimit orphanRows tops
+adopt-bodies R start s a e rank k r q =
+    bodies-adopt R start s a e
+    ∙ ap₂ (λ (i j : ℕ). firstFor R s ++ (mkBody R false a (suc (length (ownFor R a i) + length (orphansFor R (map last (regular R start None)) i 2 j))) 0 i 1 false ∷ (ownFor R a i ++ orphansFor R (map last (regular R start None)) i 2 j)))
+      (sym r) (ap (λ (i : ℕ). suc i + length (ownFor R a i)) (sym r) ∙ sym q)
+
+snoc-view : (l : List ℕ) → (l ≡ []) ⊎ ((s : List ℕ) × (a : ℕ) × (l ≡ s ++ (a ∷ [])))
+snoc-view [] = inl refl
+snoc-view (x ∷ l) = inr (⊎-elim (λ e. ([], x, ap (λ (t : List ℕ). x ∷ t) e)) (λ q. (x ∷ q .0, q .1, ap (λ (t : List ℕ). x ∷ t) (q .2))) (snoc-view l))
+
+-- the regular paths of the same start rows
+adopt-regular : (R : List Row) (start : Row → Bool) (s : List ℕ) (a : ℕ) → starts R start ≡ s ++ (a ∷ []) → (rank : ℕ) → rank ≡ suc (length (firstFor R s))
+    → regularFor R start None ≡ firstFor R s ++ (mkBody R false a (suc (length (ownFor R a rank))) 0 rank 1 false ∷ ownFor R a rank)
+unfolding levelLimit emit
+adopt-regular R start s a e rank r =
+    let one : (k : ℕ) → emit (mkBody R false) (num R) (par R) (sorted R) (suc (length R)) [] (a ∷ []) 0 0 1 k ≡ mkBody R false a (suc (length (ownFor R a k))) 0 k 1 false ∷ ownFor R a k = λ (k : ℕ). append-nil (mkBody R false a (suc (length (ownFor R a k))) 0 k 1 false ∷ ownFor R a k) in
+    let k : 1 + length (firstFor R s) ≡ rank = omega arith in
+    ap (λ (xs : List ℕ). emit (mkBody R false) (num R) (par R) (sorted R) (suc (length R)) [] xs 0 0 1 1) e
+    ∙ emit-append (num R) (par R) (sorted R) false (suc (length R)) [] s (a ∷ []) 0 0 1 1
+    ∙ ap (λ (l : List Body). firstFor R s ++ l) (one (1 + length (firstFor R s)) ∙ ap (λ (i : ℕ). mkBody R false a (suc (length (ownFor R a i))) 0 i 1 false ∷ ownFor R a i) k)
+
+-- there are no fewer nodes than regular paths
+regular-shorter : (R : List Row) (start : Row → Bool) (depth : Depth) (orphan : ℕ) → orphan ≤ 3 → (1 < orphan → depth ≡ None) → length (regularFor R start depth) ≤ length (bodies R start depth (orphanChoice orphan))
+regular-shorter R start depth zero low none = omega (arith, ap length (bodies-ignore R start depth))
+regular-shorter R start depth (suc zero) low none = omega (arith, ap length (bodies-error R start depth))
+regular-shorter R start depth (suc (suc zero)) low none =
+    let e : depth ≡ None = none (omega arith) in
+    subst (λ (d : Depth). length (regularFor R start d) ≤ length (bodies R start d adopt)) (sym e) (adopt-shorter (snoc-view (starts R start)))
+  where
+    adopt-shorter : (starts R start ≡ []) ⊎ ((s : List ℕ) × (a : ℕ) × (starts R start ≡ s ++ (a ∷ []))) → length (regularFor R start None) ≤ length (bodies R start None adopt)
+    adopt-shorter (inl e) =
+        let r : length (regularFor R start None) ≡ 0 = ap length (ap (λ (xs : List ℕ). emit (mkBody R false) (num R) (par R) (sorted R) (levelLimit None (length R)) [] xs 0 0 1 1) e ∙ emit-nil (mkBody R false) (num R) (par R) (sorted R) (levelLimit None (length R)) [] 0 0 1 1) in
+        omega arith
+    adopt-shorter (inr q) =
+        let rank : ℕ = suc (length (firstFor R (q .0))) in
+        let own : List Body = ownFor R (q .1) rank in
+        let k : ℕ = suc rank + length own in
+        let taken : List Body = orphansFor R (map last (regular R start None)) rank 2 k in
+        let x : Body = mkBody R false (q .1) (suc (length own)) 0 rank 1 false in
+        let y : Body = mkBody R false (q .1) (suc (length own + length taken)) 0 rank 1 false in
+        omega (arith, ap length (adopt-regular R start (q .0) (q .1) (q .2) rank refl), ap length (adopt-bodies R start (q .0) (q .1) (q .2) rank k refl refl),
+          length-append (firstFor R (q .0)) (x ∷ own), length-append (firstFor R (q .0)) (y ∷ (own ++ taken)), length-append own taken)
+regular-shorter R start depth (suc (suc (suc zero))) low none =
+    let e : depth ≡ None = none (omega arith) in
+    subst (λ (d : Depth). length (regularFor R start d) ≤ length (bodies R start d root)) (sym e)
+    (omega (arith, ap length (root-bodies R start), length-append (regularFor R start None) (orphansFor R (map last (regular R start None)) 0 1 (suc (length (regularFor R start None))))))
+regular-shorter R start depth (suc (suc (suc (suc k)))) low none = absurd (omega arith)
+
+module _ (R : List Row) (start : Row → Bool) (depth : Depth) (row parent numeral child next′ class owner keys flags : List ℕ)
+    (ready : Ready R row parent numeral child next′ class owner keys) (flags-are : StartFlags R start row flags) where
+  abbrev pub W : Rows
+  W = record { child = child; next = next′; cls = class; numeral = numeral; row = row }
+
+  -- the bodies of the regular paths that begin with some rows, from rank k on
+  abbrev pub E : List ℕ → ℕ → List Body
+  E xs k = emit (mkBody R false) (num R) (par R) (sorted R) (levelLimit depth (length R)) [] xs 0 0 1 k
+
+  abbrev pub regular-bodies : List Body
+  regular-bodies = E (starts R start) 1
+
+  flags-long : length flags ≡ length row
+  flags-long = ap length flags-are ∙ length-map row (λ x. flagOf (start (boardRow R x)))
+
+  child-count : length child ≡ length row
+  child-count = child-long R row parent numeral (ready .ordered) parent child next′ (parent-long R row parent numeral (ready .ordered)) (ready .child-is) (ready .next-is)
+
+  all-starts : map (rowOf W) (flagged flags 0 (length child)) ≡ starts R start
+  unfolding flagged starts
+  all-starts =
+      let z : length child - 0 ≡ length row = omega (arith, child-count) in
+      ap (λ (j : ℕ). map (λ q. getD row q 0) (filter (λ q. eqb (getD flags q 0) 1) (numbers 0 j))) z
+      ∙ flagged-rows (λ x. start (boardRow R x)) row flags 0 (length row) flags-are (omega arith)
+      ∙ ap (filter (λ x. start (boardRow R x))) (take-length row ∙ ready .ordered .rows-are)
+
+  module _ (cap : ℕ) (on on₁ ix ix₁ : List ℕ) (b : Begun) (fits : 8 + 6 * cap ≤ length ix) (clear : Clear on) (lim : ℕ) (limit-is : lim ≡ levelLimit depth (length R))
+      (last-is : ℕ) (walks : StartsWalked (record { child = child; next = next′; cls = class; numeral = numeral; row = row }) flags last-is lim cap on on₁ ix ix₁ b) where
+    abbrev met : Met
+    met = record { count = b .count; check = b .check }
+
+    starting : Starting (num R) (par R) (sorted R) (map (rowOf W) (flagged flags 0 (length child))) (map (rowOf W) (flagged flags 0 last-is)) lim cap on on₁ ix ix₁ b
+    unfolding StartsWalked
+    starting = walks (num R) (par R) (sorted R) (hung R row parent numeral class (ready .ordered) (ready .class-is) child next′ (ready .child-is) (ready .next-is)) (clear-marked W (num R) on clear)
+
+    -- the regular paths' bodies are written
+    pub begun-walked : Walked regular-bodies 0 cap 0 on on₁ ix ix₁ (record { count = b .count; check = b .check })
+    begun-walked =
+        subst (λ (L : List Body). Walked L 0 cap 0 on on₁ ix ix₁ met)
+        (ap₂ (λ (g : ℕ) (xs : List ℕ). emit (mkBody R false) (num R) (par R) (sorted R) g [] xs 0 0 1 1) limit-is all-starts) (starting .walked)
+
+    pub begun-marks : on₁ ≡ on
+    begun-marks = begun-walked .marks
+
+    -- ignore and error
+    pub plain-walked : (orphan : ℕ) → orphan < 2 → Walked (bodies R start depth (orphanChoice orphan)) 0 cap 0 on on₁ ix ix₁ (record { count = b .count; check = b .check })
+    plain-walked zero h = subst (λ (L : List Body). Walked L 0 cap 0 on on₁ ix ix₁ (record { count = b .count; check = b .check })) (sym (bodies-ignore R start depth)) begun-walked
+    plain-walked (suc zero) h = subst (λ (L : List Body). Walked L 0 cap 0 on on₁ ix ix₁ (record { count = b .count; check = b .check })) (sym (bodies-error R start depth)) begun-walked
+    plain-walked (suc (suc k)) h = absurd (omega arith)
+
+    -- more nodes than the capacity
+    pub over-walked : (orphan : ℕ) → orphan ≤ 3 → (1 < orphan → depth ≡ None) → cap < b .count → Walked (bodies R start depth (orphanChoice orphan)) 0 cap 0 on on₁ ix ix₁ (record { count = b .count; check = b .check })
+    over-walked orphan low none over = walked-longer regular-bodies (bodies R start depth (orphanChoice orphan)) 0 cap 0 on on₁ ix ix₁ ix₁ met begun-walked over (regular-shorter R start depth orphan low none)
+
+    -- adopt without a start row
+    pub no-start-walked : depth ≡ None → starts R start ≡ [] → Walked (bodies R start depth adopt) 0 cap 0 on on₁ ix ix₁ (record { count = b .count; check = b .check })
+    no-start-walked none e =
+        let r : regular-bodies ≡ [] = ap (λ (xs : List ℕ). E xs 1) e ∙ emit-nil (mkBody R false) (num R) (par R) (sorted R) (levelLimit depth (length R)) [] 0 0 1 1 in
+        let w : bodies R start depth adopt ≡ [] = ap (λ (d : Depth). bodies R start d adopt) none ∙ bodies-adopt-none R start e in
+        subst (λ (L : List Body). Walked L 0 cap 0 on on₁ ix ix₁ met) (r ∙ sym w) begun-walked
+
+    module _ (fit : b .count ≤ cap) where
+      pub count-is : b .count ≡ length regular-bodies
+      count-is = omega (arith, begun-walked .count)
+
+      room : 8 + 6 * length regular-bodies ≤ length ix
+      room = omega (arith, count-is)
+
+      pub ends-are : rowsTo ix₁ (b .count) ≡ map last (regular R start depth)
+      ends-are =
+          ap₂ rowsTo (begun-walked .written fit) count-is
+          ∙ rows-written ix regular-bodies room
+          ∙ regular-rows R start depth false 0 0 1 1
+
+      -- each body written has the number of one of the rows
+      pub begun-named : Named ix₁ (b .count) (length row)
+      begun-named k low high =
+          let L : List Body = regular-bodies in
+          let i : k - 1 < length L = omega (arith, count-is) in
+          let e : rowAt ix₁ k ≡ getD L (k - 1) noBody .row =
+            ap (λ (s : List ℕ). rowAt s k) (begun-walked .written fit) ∙ ap (λ (j : ℕ). rowAt (sets ix 8 (flat L)) j) (sym back) ∙ row-written ix L (k - 1) noBody room i in
+          let m : getD L (k - 1) noBody ∈ bodies R start depth ignore = subst (λ (l : List Body). getD L (k - 1) noBody ∈ l) (sym (bodies-ignore R start depth)) (getD-in L (k - 1) noBody i) in
+          let r = bodies-bounded R start depth ignore (getD L (k - 1) noBody) m .row-of in
+          (omega (arith, r), omega (arith, r, row-count R row parent numeral child next′ class owner keys ready))
+        where
+          back : 1 + (k - 1) ≡ k
+          back = omega arith
+
+      -- root: the orphan paths as roots
+      pub root-walked : depth ≡ None → (on₂ ix₂ : List ℕ) (r : Met) → Walked (orphansFrom R (rowsTo ix₁ (b .count)) 0 (b .count)) (b .count) cap (b .check) on₁ on₂ ix₁ ix₂ r
+          → Walked (bodies R start depth root) 0 cap 0 on on₂ ix ix₂ r
+      root-walked none on₂ ix₂ r w =
+          subst (λ (L : List Body). Walked L 0 cap 0 on on₂ ix ix₂ r) (sym (whole-is none))
+          (walked-join regular-bodies (orphansFrom R (rowsTo ix₁ (b .count)) 0 (b .count)) 0 cap 0 on on₁ on₂ ix ix₁ ix₂ met r begun-walked fit w)
+        where
+          whole-is : depth ≡ None → bodies R start depth root ≡ regular-bodies ++ orphansFrom R (rowsTo ix₁ (b .count)) 0 (b .count)
+          whole-is e =
+              let k : suc (length (regularFor R start None)) ≡ b .count + 1 = ap (λ (d : Depth). suc (length (regularFor R start d))) (sym e) ∙ omega (arith, count-is) in
+              ap (λ (d : Depth). bodies R start d root) e
+              ∙ root-bodies R start
+              ∙ ap (λ (j : ℕ). regularFor R start None ++ orphansFor R (map last (regular R start None)) 0 1 j) k
+              ∙ ap₂ (λ (d : Depth) (ends : List ℕ). regularFor R start d ++ orphansFor R ends 0 1 (b .count + 1)) (sym e) (ap (λ (d : Depth). map last (regular R start d)) (sym e) ∙ sym ends-are)
+
+      -- adopt, with a start row at the place last-is
+      module _ (none : depth ≡ None) (last-flag : last-is ≡ lastFlag flags) (some : last-is < length row) where
+        s : List ℕ
+        s = map (rowOf W) (flagged flags 0 last-is)
+
+        a : ℕ
+        a = getD row last-is 0
+
+        starts-split : starts R start ≡ s ++ (a ∷ [])
+        unfolding s a
+        starts-split =
+            let low : last-is ≤ length child = omega (arith, child-count) in
+            let long : length child ≡ length flags = child-count ∙ sym flags-long in
+            sym all-starts
+            ∙ ap (map (rowOf W)) (flagged-split flags last-is (length child) low)
+            ∙ map-append (rowOf W) (flagged flags 0 last-is) (flagged flags last-is (length child))
+            ∙ ap (λ (l : List ℕ). map (rowOf W) (flagged flags 0 last-is) ++ map (rowOf W) l) (ap (λ (j : ℕ). flagged flags j (length child)) last-flag ∙ one-flagged flags (length child) long (omega (arith, last-flag, child-count)) ∙ ap (λ (j : ℕ). j ∷ []) (sym last-flag))
+
+        before-first : b .before ≡ length (firstFor R s)
+        unfolding s
+        before-first =
+            starting .before-is fit ∙ ap (λ (g : ℕ). length (emit (mkBody R false) (num R) (par R) (sorted R) g [] s 0 0 1 1)) (limit-is ∙ ap (λ (d : Depth). levelLimit d (length R)) none)
+
+        rank : ℕ
+        rank = b .before + 1
+
+        rank-is : rank ≡ suc (length (firstFor R s))
+        unfolding rank
+        rank-is = ap (λ (j : ℕ). j + 1) before-first ∙ add-one (length (firstFor R s))
+
+        own : List Body
+        own = ownFor R a rank
+
+        mine : ℕ → Body
+        mine size = mkBody R false a size 0 rank 1 false
+
+        regular-is : regular-bodies ≡ firstFor R s ++ (mine (suc (length own)) ∷ own)
+        unfolding own mine
+        regular-is = ap (λ (d : Depth). regularFor R start d) none ∙ adopt-regular R start s a starts-split rank rank-is
+
+        counted : b .count ≡ length (firstFor R s) + suc (length own)
+        counted = count-is ∙ ap length regular-is ∙ length-append (firstFor R s) (mine (suc (length own)) ∷ own)
+
+        pub adopt-before : b .before < b .count
+        adopt-before = omega (arith, counted, before-first)
+
+        pub adopt-size : getD ix₁ (8 + 6 * b .before + 2) 0 ≤ b .count
+        unfolding mine
+        adopt-size =
+            let L : List Body = firstFor R s ++ (mine (suc (length own)) ∷ own) in
+            let e : getD ix₁ (8 + 6 * b .before + 2) 0 ≡ suc (length own) =
+              ap (λ (w : List ℕ). getD w (8 + 6 * b .before + 2) 0) (begun-walked .written fit ∙ ap (λ (l : List Body). sets ix 8 (flat l)) regular-is)
+              ∙ ap (λ (j : ℕ). getD (sets ix 8 (flat L)) (8 + 6 * j + 2) 0) before-first
+              ∙ size-written ix (firstFor R s) (mine (suc (length own))) own (omega (arith, counted, length-append (firstFor R s) (mine (suc (length own)) ∷ own))) in
+            omega (arith, e, counted)
+
+        taken : List Body
+        taken = orphansFrom R (rowsTo ix₁ (b .count)) (b .before + 1) (b .count)
+
+        whole-is : bodies R start depth adopt ≡ firstFor R s ++ (mine (suc (length own) + length taken) ∷ (own ++ taken))
+        unfolding taken own mine rank
+        whole-is =
+            let lev : orphanLevel (b .before + 1) ≡ 2 = ap (λ (t : Bool). cond t 1 2) (ne-eqb (b .before + 1) 0 (λ z. absurd (omega arith))) in
+            let k : b .count + 1 ≡ suc rank + length own = omega (arith, counted, before-first) in
+            let same : orphansFor R (map last (regular R start None)) rank 2 (b .count + 1) ≡ taken =
+              ap₂ (λ (ends : List ℕ) (l : ℕ). orphansFor R ends rank l (b .count + 1)) (ap (λ (d : Depth). map last (regular R start d)) (sym none) ∙ sym ends-are) (sym lev) in
+            let size : (T : List Body) → suc (length own + length T) ≡ suc (length own) + length T = λ (T : List Body). omega arith in
+            ap (λ (d : Depth). bodies R start d adopt) none
+            ∙ adopt-bodies R start s a starts-split rank (b .count + 1) rank-is k
+            ∙ ap (λ (T : List Body). firstFor R s ++ (mine (suc (length own + length T)) ∷ (own ++ T))) same
+            ∙ ap (λ (z : ℕ). firstFor R s ++ (mine z ∷ (own ++ taken))) (size taken)
+
+        joined : regular-bodies ++ taken ≡ firstFor R s ++ (mine (suc (length own)) ∷ (own ++ taken))
+        joined = ap (λ (l : List Body). l ++ taken) regular-is ∙ append-assoc (firstFor R s) (mine (suc (length own)) ∷ own) taken
+
+        pub adopt-walked : (on₂ ix₂ : List ℕ) (r : Met) → Adopted R cap b on₁ on₂ ix₁ ix₂ r → Walked (bodies R start depth adopt) 0 cap 0 on on₂ ix ix₂ r
+        unfolding taken mine own
+        adopt-walked on₂ ix₂ r q =
+            subst (λ (L : List Body). Walked L 0 cap 0 on on₂ ix ix₂ r) (sym whole-is) (go (decLt cap (q .met .count)))
+          where
+            both : Walked (firstFor R s ++ (mine (suc (length own)) ∷ (own ++ taken))) 0 cap 0 on on₂ ix (q .middle) (q .met)
+            both =
+                subst (λ (L : List Body). Walked L 0 cap 0 on on₂ ix (q .middle) (q .met)) joined
+                (walked-join regular-bodies taken 0 cap 0 on on₁ on₂ ix ix₁ (q .middle) met (q .met) begun-walked fit (q .walked))
+
+            A : List Body
+            A = firstFor R s
+
+            T : List Body
+            T = own ++ taken
+
+            lengths : length (A ++ (mine (suc (length own) + length taken) ∷ T)) ≡ length (A ++ (mine (suc (length own)) ∷ T))
+            lengths = length-append A (mine (suc (length own) + length taken) ∷ T) ∙ sym (length-append A (mine (suc (length own)) ∷ T))
+
+            more : q .met .count ≤ cap → q .met .count - b .count ≡ length taken
+            more h = omega (arith, q .walked .count)
+
+            go : Dec (cap < q .met .count) → Walked (A ++ (mine (suc (length own) + length taken) ∷ T)) 0 cap 0 on on₂ ix ix₂ r
+            go (yes over) = record {
+                count = omega (arith, q .count-is, both .count, lengths);
+                marks = both .marks;
+                written = λ h. absurd (omega (arith, q .count-is));
+                check = λ h. absurd (omega (arith, q .count-is));
+              }
+            go (no low) =
+                let h : q .met .count ≤ cap = omega arith in
+                let w = q .raised h in
+                let size-is : getD (q .middle) (8 + 6 * b .before + 2) 0 ≡ suc (length own) =
+                  ap (λ (l : List ℕ). getD l (8 + 6 * b .before + 2) 0) (both .written h) ∙ ap (λ (j : ℕ). getD (sets ix 8 (flat (A ++ (mine (suc (length own)) ∷ T)))) (8 + 6 * j + 2) 0) before-first
+                  ∙ size-written ix A (mine (suc (length own))) T (omega (arith, both .count, length-append A (mine (suc (length own)) ∷ T))) in
+                record {
+                  count = omega (arith, q .count-is, both .count, lengths);
+                  marks = both .marks;
+                  written = λ z. w .written
+                      ∙ ap₂ (λ (l : List ℕ) (v : ℕ). set l (8 + 6 * b .before + 2) v) (both .written h) (ap₂ _+_ size-is (more h))
+                      ∙ ap (λ (j : ℕ). set (sets ix 8 (flat (A ++ (mine (suc (length own)) ∷ T)))) (8 + 6 * j + 2) (suc (length own) + length taken)) before-first
+                      ∙ written-sized ix A (mine (suc (length own))) T (suc (length own) + length taken);
+                  check = λ z. w .check
+                      ∙ ap₂ (λ (c k : ℕ). (c + k) % 2 ^ 32) (both .check h) (more h)
+                      ∙ sym (check-raised 0 (length taken) A (mine (suc (length own))) T);
+                }

@@ -1,0 +1,4 @@
+pub mod Enumerate
+pub mod WalkJoins
+pub mod OrphanLaws
+pub mod EnumerateLaws

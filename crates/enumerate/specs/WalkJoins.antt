@@ -1,0 +1,181 @@
+-- How the walks of an enumeration join: the start rows in two parts, and a tree size raised afterwards. Assumes nothing.
+use mathlib.Core.Path.{_≡_, refl, sym, ap, _∙_, subst}
+use mathlib.Core.Bool.{Bool, true, false}
+use mathlib.Core.List.{List, [], _∷_, _++_, map, append-assoc}
+use Prim.Native.Nat.{ℕ, zero, suc, _+_, _-_, _*_, _%_, _^_, _≤_, _<_, min}
+use native.Mathlib.Nat.{add-zero, zero-add}
+use native.Mathlib.Numerals.{add-one}
+use native.Mathlib.Omega.{arith}
+use lib.Dec.{eqb}
+use lib.ListN.{length, getD, set, take, drop, length-append, List·getD-append}
+use lib.Seq.{sets, sets-eq, set-set, length-take-le, getD-append-add}
+use Rattle.lists.specs.Members.{filter, filter-append, map-append, numbers}
+use Rattle.lists.specs.Stores.{set-sets}
+use Rattle.image.specs.declared.Body.{Body}
+use Rattle.image.specs.Layout.{bodyWords, flat, checked, packed}
+use Rattle.image.specs.ImageLaws.{flat-append, length-flat, length-body, checked-append}
+use Rattle.paths.specs.Emit.{emit}
+use Rattle.walk.specs.Walk.{Rows, rowOf, Hung, Marked, Walked, NodesWalked, nodeBody, flagged}
+use Rattle.walk.specs.WalkLaws.{emit-append, walked-join, walked-stop}
+use Rattle.walk.specs.declared.Met.{Met}
+use Rattle.enumerate.specs.declared.Begun.{Begun}
+use Rattle.enumerate.specs.Enumerate.{Starting, StartsWalked}
+
+numbers-split : (a m n : ℕ) → m ≤ n → numbers a n ≡ numbers a m ++ numbers (a + m) (n - m)
+numbers-split a zero n h = let e : n ≡ n - 0 = omega arith in ap (λ (j : ℕ). numbers a j) e ∙ ap (λ (j : ℕ). numbers j (n - 0)) (sym (add-zero a))
+numbers-split a (suc m) zero h = absurd (omega arith)
+numbers-split a (suc m) (suc n) h =
+    let e : suc a + m ≡ a + suc m = omega arith in
+    let f : n - m ≡ suc n - suc m = omega arith in
+    ap (λ (l : List ℕ). a ∷ l) (numbers-split (suc a) m n (omega arith) ∙ ap (λ (j : ℕ). numbers (suc a) m ++ numbers j (n - m)) e ∙ ap (λ (j : ℕ). numbers (suc a) m ++ numbers (a + suc m) j) f)
+
+-- the flagged places in two parts
+pub flagged-split : (flags : List ℕ) (last n : ℕ) → last ≤ n → flagged flags 0 n ≡ flagged flags 0 last ++ flagged flags last n
+unfolding flagged
+flagged-split flags last n h =
+    let f : ℕ → Bool = λ (q : ℕ). eqb (getD flags q 0) 1 in
+    let e : n - 0 ≡ n = omega arith in
+    let d : last - 0 ≡ last = omega arith in
+    ap (λ (j : ℕ). filter f (numbers 0 j)) e
+    ∙ ap (filter f) (numbers-split 0 last n h)
+    ∙ filter-append f (numbers 0 last) (numbers (0 + last) (n - last))
+    ∙ ap (λ (j : ℕ). filter f (numbers 0 last) ++ filter f (numbers j (n - last))) (zero-add last)
+    ∙ ap (λ (j : ℕ). filter f (numbers 0 j) ++ filter f (numbers last (n - last))) (sym d)
+
+module _ (W : Rows) (flags : List ℕ) (last limit cap : ℕ) (low : last ≤ length (W .child)) where
+  -- more nodes than fit before the last start row
+  pub starts-stop : (on on₁ ix ix₁ : List ℕ) (r : Met) → NodesWalked W false limit 1 0 0 (flagged flags 0 last) 0 cap 0 on on₁ ix ix₁ r → cap < r .count
+      → StartsWalked W flags last limit cap on on₁ ix ix₁ (record { before = r .count; count = r .count; check = r .check })
+  unfolding NodesWalked StartsWalked
+  starts-stop on on₁ ix ix₁ r w over = λ num par pool hung marked.
+      let f : limit + 1 - 1 ≡ limit = omega arith in
+      let A : List ℕ = map (rowOf W) (flagged flags 0 last) in
+      let B : List ℕ = map (rowOf W) (flagged flags last (length (W .child))) in
+      let E : List ℕ → ℕ → List Body = λ (xs : List ℕ) (k : ℕ). emit (nodeBody num false) num par pool limit [] xs 0 0 1 k in
+      let first : Walked (E A 1) 0 cap 0 on on₁ ix ix₁ r = subst (λ (g : ℕ). Walked (emit (nodeBody num false) num par pool g [] A 0 0 1 1) 0 cap 0 on on₁ ix ix₁ r) f (w num par pool [] hung marked) in
+      let split : map (rowOf W) (flagged flags 0 (length (W .child))) ≡ A ++ B = ap (map (rowOf W)) (flagged-split flags last (length (W .child)) low) ∙ map-append (rowOf W) (flagged flags 0 last) (flagged flags last (length (W .child))) in
+      let all : E (map (rowOf W) (flagged flags 0 (length (W .child)))) 1 ≡ E A 1 ++ E B (1 + length (E A 1)) = ap (λ (xs : List ℕ). E xs 1) split ∙ emit-append num par pool false limit [] A B 0 0 1 1 in
+      record {
+        walked = subst (λ (L : List Body). Walked L 0 cap 0 on on₁ ix ix₁ r) (sym all) (walked-stop (E A 1) (E B (1 + length (E A 1))) 0 cap 0 on on₁ ix ix₁ r first over);
+        before-is = λ h. absurd (no h);
+        before-le = omega arith;
+      }
+    where
+      no : r .count ≤ cap → ⊥
+      no h = omega arith
+
+  -- both parts
+  pub starts-both : (on on₁ on₂ ix ix₁ ix₂ : List ℕ) (r₁ r₂ : Met) → NodesWalked W false limit 1 0 0 (flagged flags 0 last) 0 cap 0 on on₁ ix ix₁ r₁ → r₁ .count ≤ cap
+      → NodesWalked W false limit 1 0 0 (flagged flags last (length (W .child))) (r₁ .count) cap (r₁ .check) on₁ on₂ ix₁ ix₂ r₂
+      → StartsWalked W flags last limit cap on on₂ ix ix₂ (record { before = r₁ .count; count = r₂ .count; check = r₂ .check })
+  unfolding NodesWalked StartsWalked
+  starts-both on on₁ on₂ ix ix₁ ix₂ r₁ r₂ w fit v = λ num par pool hung marked.
+      let f : limit + 1 - 1 ≡ limit = omega arith in
+      let A : List ℕ = map (rowOf W) (flagged flags 0 last) in
+      let B : List ℕ = map (rowOf W) (flagged flags last (length (W .child))) in
+      let E : List ℕ → ℕ → List Body = λ (xs : List ℕ) (k : ℕ). emit (nodeBody num false) num par pool limit [] xs 0 0 1 k in
+      let first : Walked (E A 1) 0 cap 0 on on₁ ix ix₁ r₁ = subst (λ (g : ℕ). Walked (emit (nodeBody num false) num par pool g [] A 0 0 1 1) 0 cap 0 on on₁ ix ix₁ r₁) f (w num par pool [] hung marked) in
+      let same : Marked W num on₁ [] = subst (λ (l : List ℕ). Marked W num l []) (sym (first .marks)) marked in
+      let c : r₁ .count ≡ length (E A 1) = omega (arith, first .count) in
+      let k : r₁ .count + 1 ≡ 1 + length (E A 1) = omega arith in
+      let second₀ : Walked (E B (r₁ .count + 1)) (r₁ .count) cap (r₁ .check) on₁ on₂ ix₁ ix₂ r₂ = subst (λ (g : ℕ). Walked (emit (nodeBody num false) num par pool g [] B 0 0 1 (r₁ .count + 1)) (r₁ .count) cap (r₁ .check) on₁ on₂ ix₁ ix₂ r₂) f (v num par pool [] hung same) in
+      let second : Walked (E B (1 + length (E A 1))) (r₁ .count) cap (r₁ .check) on₁ on₂ ix₁ ix₂ r₂ = subst (λ (j : ℕ). Walked (E B j) (r₁ .count) cap (r₁ .check) on₁ on₂ ix₁ ix₂ r₂) k second₀ in
+      let split : map (rowOf W) (flagged flags 0 (length (W .child))) ≡ A ++ B = ap (map (rowOf W)) (flagged-split flags last (length (W .child)) low) ∙ map-append (rowOf W) (flagged flags 0 last) (flagged flags last (length (W .child))) in
+      let all : E (map (rowOf W) (flagged flags 0 (length (W .child)))) 1 ≡ E A 1 ++ E B (1 + length (E A 1)) = ap (λ (xs : List ℕ). E xs 1) split ∙ emit-append num par pool false limit [] A B 0 0 1 1 in
+      record {
+        walked = subst (λ (L : List Body). Walked L 0 cap 0 on on₂ ix ix₂ r₂) (sym all) (walked-join (E A 1) (E B (1 + length (E A 1))) 0 cap 0 on on₁ on₂ ix ix₁ ix₂ r₁ r₂ first fit second);
+        before-is = λ h. c;
+        before-le = omega (arith, second .count);
+      }
+
+-- a walk that passed the capacity, of any longer list
+pub walked-longer : (L M : List Body) (n cap check : ℕ) (on on₁ ix ix₁ ix₂ : List ℕ) (r : Met) → Walked L n cap check on on₁ ix ix₁ r → cap < r .count → length L ≤ length M → Walked M n cap check on on₁ ix ix₂ r
+walked-longer L M n cap check on on₁ ix ix₁ ix₂ r w over le =
+    record { count = omega (arith, w .count); marks = w .marks; written = λ h. absurd (no h over); check = λ h. absurd (no h over) }
+  where
+    no : {a b : ℕ} → a ≤ b → b < a → ⊥
+    no p q = omega arith
+
+-- ---- a tree size raised afterwards
+
+set-inside : (xs : List ℕ) (i : ℕ) (vs : List ℕ) (j v : ℕ) → j < length vs → set (sets xs i vs) (i + j) v ≡ sets xs i (set vs j v)
+set-inside xs i [] j v h = absurd (omega arith)
+set-inside xs i (a ∷ vs) zero v h =
+    ap (λ (k : ℕ). set (sets (set xs i a) (suc i) vs) k v) (add-zero i)
+    ∙ ap (λ (l : List ℕ). set l i v) (set-sets xs i (suc i) a vs (omega arith))
+    ∙ set-set (sets xs (suc i) vs) i a v
+    ∙ sym (set-sets xs i (suc i) v vs (omega arith))
+set-inside xs i (a ∷ vs) (suc j) v h =
+    let e : i + suc j ≡ suc i + j = omega arith in
+    ap (λ (k : ℕ). set (sets (set xs i a) (suc i) vs) k v) e ∙ set-inside (set xs i a) (suc i) vs j v (omega arith)
+
+set-after : (xs ys : List ℕ) (j v : ℕ) → set (xs ++ ys) (length xs + j) v ≡ xs ++ set ys j v
+set-after [] ys j v = ap (λ (k : ℕ). set ys k v) (zero-add j)
+set-after (x ∷ xs) ys j v = let e : suc (length xs) + j ≡ suc (length xs + j) = omega arith in ap (λ (k : ℕ). set (x ∷ (xs ++ ys)) k v) e ∙ ap (λ (l : List ℕ). x ∷ l) (set-after xs ys j v)
+
+-- a body with another tree size
+abbrev pub sized : Body → ℕ → Body
+sized b size = record { numeral = b .numeral; row = b .row; size = size; parent = b .parent; root = b .root; level = b .level; closing = b .closing; orphan = b .orphan }
+
+flat-sized : (b : Body) (T : List Body) (v : ℕ) → set (flat (b ∷ T)) 2 v ≡ flat (sized b v ∷ T)
+unfolding flat bodyWords
+flat-sized b T v = refl
+
+pub written-sized : (ix : List ℕ) (A : List Body) (b : Body) (T : List Body) (v : ℕ)
+    → set (sets ix 8 (flat (A ++ b ∷ T))) (8 + 6 * length A + 2) v ≡ sets ix 8 (flat (A ++ sized b v ∷ T))
+written-sized ix A b T v =
+    let e : 8 + 6 * length A + 2 ≡ 8 + (length (flat A) + 2) = omega (arith, length-flat A) in
+    let l : length (flat A) + 2 < length (flat (A ++ b ∷ T)) = omega (arith, length-flat A, length-flat (A ++ b ∷ T), length-append A (b ∷ T)) in
+    ap (λ (k : ℕ). set (sets ix 8 (flat (A ++ b ∷ T))) k v) e
+    ∙ set-inside ix 8 (flat (A ++ b ∷ T)) (length (flat A) + 2) v l
+    ∙ ap (λ (w : List ℕ). sets ix 8 (set w (length (flat A) + 2) v)) (flat-append A (b ∷ T))
+    ∙ ap (λ (w : List ℕ). sets ix 8 w) (set-after (flat A) (flat (b ∷ T)) 2 v)
+    ∙ ap (λ (w : List ℕ). sets ix 8 (flat A ++ w)) (flat-sized b T v)
+    ∙ ap (λ (w : List ℕ). sets ix 8 w) (sym (flat-append A (sized b v ∷ T)))
+
+pub getD-inside : (xs : List ℕ) (i : ℕ) (vs : List ℕ) (j d : ℕ) → i + length vs ≤ length xs → j < length vs → getD (sets xs i vs) (i + j) d ≡ getD vs j d
+getD-inside xs i vs j d room h = go
+  where
+    go : getD (sets xs i vs) (i + j) d ≡ getD vs j d
+    go =
+        let e = sets-eq vs xs i room in
+        let t : length (take i xs) ≡ i = length-take-le i xs (omega arith) in
+        ap (λ (l : List ℕ). getD l (i + j) d) e
+        ∙ ap (λ (k : ℕ). getD (take i xs ++ vs ++ drop (i + length vs) xs) (k + j) d) (sym t)
+        ∙ ap (λ (l : List ℕ). getD l (length (take i xs) + j) d) (append-assoc (take i xs) vs (drop (i + length vs) xs))
+        ∙ getD-append-add (take i xs) (vs ++ drop (i + length vs) xs) j d
+        ∙ List·getD-append vs (drop (i + length vs) xs) d j h
+
+-- the tree size as it stands in the index
+pub size-written : (ix : List ℕ) (A : List Body) (b : Body) (T : List Body) → 8 + 6 * length (A ++ b ∷ T) ≤ length ix
+    → getD (sets ix 8 (flat (A ++ b ∷ T))) (8 + 6 * length A + 2) 0 ≡ b .size
+unfolding flat bodyWords
+size-written ix A b T room =
+    let e : 8 + 6 * length A + 2 ≡ 8 + (length (flat A) + 2) = omega (arith, length-flat A) in
+    let l : length (flat A) + 2 < length (flat (A ++ b ∷ T)) = omega (arith, length-flat A, length-flat (A ++ b ∷ T), length-append A (b ∷ T)) in
+    ap (λ (k : ℕ). getD (sets ix 8 (flat (A ++ b ∷ T))) k 0) e
+    ∙ getD-inside ix 8 (flat (A ++ b ∷ T)) (length (flat A) + 2) 0 (omega (arith, length-flat (A ++ b ∷ T))) l
+    ∙ ap (λ (w : List ℕ). getD w (length (flat A) + 2) 0) (flat-append A (b ∷ T))
+    ∙ getD-append-add (flat A) (flat (b ∷ T)) 2 0
+
+checked-plus : (e k : ℕ) (ys : List ℕ) → checked ((e + k) % 2 ^ 32) ys ≡ (checked e ys + k) % 2 ^ 32
+unfolding checked
+checked-plus e k [] = refl
+checked-plus e k (y ∷ ys) =
+    let q : ((e + k) % 2 ^ 32 + y) % 2 ^ 32 ≡ ((e + y) % 2 ^ 32 + k) % 2 ^ 32 = omega arith in
+    ap (λ (z : ℕ). checked z ys) q ∙ checked-plus ((e + y) % 2 ^ 32) k ys
+
+checked-sized : (c k : ℕ) (b : Body) (T : List Body) → checked c (flat (sized b (b .size + k) ∷ T)) ≡ (checked c (flat (b ∷ T)) + k) % 2 ^ 32
+unfolding flat bodyWords checked
+checked-sized c k b T =
+    let d : ℕ = ((c + b .numeral) % 2 ^ 32 + b .row) % 2 ^ 32 in
+    let rest : List ℕ = b .parent ∷ b .root ∷ packed (b .level) (b .closing) (b .orphan) ∷ flat T in
+    let q : (d + (b .size + k)) % 2 ^ 32 ≡ ((d + b .size) % 2 ^ 32 + k) % 2 ^ 32 = omega arith in
+    ap (λ (z : ℕ). checked z rest) q ∙ checked-plus ((d + b .size) % 2 ^ 32) k rest
+
+pub check-raised : (c k : ℕ) (A : List Body) (b : Body) (T : List Body) → checked c (flat (A ++ sized b (b .size + k) ∷ T)) ≡ (checked c (flat (A ++ b ∷ T)) + k) % 2 ^ 32
+check-raised c k A b T =
+    ap (checked c) (flat-append A (sized b (b .size + k) ∷ T))
+    ∙ checked-append c (flat A) (flat (sized b (b .size + k) ∷ T))
+    ∙ checked-sized (checked c (flat A)) k b T
+    ∙ ap (λ (z : ℕ). (z + k) % 2 ^ 32) (sym (ap (checked c) (flat-append A (b ∷ T)) ∙ checked-append c (flat A) (flat (b ∷ T))))
