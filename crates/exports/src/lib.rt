@@ -1,0 +1,154 @@
+// The calls that C and Rust link to. Each has the contract of the call that it wraps; flat types only, and a slice is a pointer and a length.
+ghost use mathlib.Core.Path.{_≡_};
+ghost use lib.ListN.{length};
+ghost use Rattle.board.specs.Edits.{emptyOf, soundOf, addOf, withdrawOf, remarkOf, undoOf};
+ghost use Rattle.navigate.specs.Navigate.{descendantsAnswer, descendantsOut, siblingsAnswer, siblingsOut};
+ghost use Rattle.navigate.specs.Climb.{ancestorsAnswer, ancestorsOut};
+ghost use Rattle.sums.specs.Sums.{subtreeAnswer, pathAnswer};
+ghost use Rattle.index_check.specs.IndexCheck.{accepts};
+ghost use Rattle.history.specs.Encoding.{replayedOf, refusalsOf};
+ghost use Rattle.exports.specs.Spans.{spanOf};
+use board::Board;
+use board::Edited;
+use board::Row;
+use history::Replayed;
+use navigate::Climbed;
+use navigate::Listed;
+use sums::Summed;
+
+// Where a node's span stands in the index slice: its first word, counted from 0, and its number of words.
+#[repr(C)]
+pub struct Span {
+    pub refusal: u32,
+    pub start: usize,
+    pub words: usize,
+}
+
+#[no_mangle]
+pub extern "C" fn flowpewter_empty() -> Board
+    ensures { λ r. ⌜ r ≡ emptyOf ⌝ }
+{
+    Board::empty()
+}
+
+#[no_mangle]
+pub extern "C" fn flowpewter_sound(board: Board) -> bool
+    ensures { λ r. ⌜ r ≡ soundOf board ⌝ }
+{
+    board.sound()
+}
+
+#[no_mangle]
+pub extern "C" fn flowpewter_add(board: Board, row: Row) -> Edited
+    ensures { λ r. ⌜ r ≡ addOf board row ⌝ }
+{
+    board.add(row)
+}
+
+#[no_mangle]
+pub extern "C" fn flowpewter_withdraw(board: Board, k: usize) -> Edited
+    ensures { λ r. ⌜ r ≡ withdrawOf board k ⌝ }
+{
+    board.withdraw(k)
+}
+
+#[no_mangle]
+pub extern "C" fn flowpewter_remark(board: Board, k: usize, minutes: i32) -> Edited
+    ensures { λ r. ⌜ r ≡ remarkOf board k minutes ⌝ }
+{
+    board.remark(k, minutes)
+}
+
+#[no_mangle]
+pub extern "C" fn flowpewter_undo(board: Board) -> Edited
+    ensures { λ r. ⌜ r ≡ undoOf board ⌝ }
+{
+    board.undo()
+}
+
+#[no_mangle]
+pub extern "C" fn flowpewter_replay(words: &[u32], refusals: &mut [u32]) -> Replayed
+    ensures { λ r. ⌜ r ≡ replayedOf (now (words .entry)) (length (now (refusals .entry))) ⌝ }
+    ensures { λ _. ⌜ now (refusals .exit) ≡ refusalsOf (now (words .entry)) (now (refusals .entry)) ⌝ }
+{
+    history::replay(words, refusals)
+}
+
+// A returned part of a slice can't be exported: the caller cuts it out by start and length.
+#[no_mangle]
+pub extern "C" fn flowpewter_span(index: &[u32], rank: u32) -> Span
+    ensures { λ r. ⌜ r ≡ spanOf (now (index .entry)) rank ⌝ }
+{
+    let refusal = navigate::span_refusal(index, rank);
+    if refusal != 0 {
+        return Span {
+            refusal,
+            start: 0,
+            words: 0,
+        };
+    }
+    let start = 8 + 6 * (rank as usize - 1);
+    let size = lists::get(index, start + 2) as usize;
+    Span {
+        refusal: 0,
+        start,
+        words: 6 * size,
+    }
+}
+
+#[no_mangle]
+pub extern "C" fn flowpewter_descendants(
+    index: &[u32],
+    rank: u32,
+    lo: i32,
+    hi: i32,
+    out: &mut [u32],
+) -> Listed
+    ensures { λ r. ⌜ r ≡ descendantsAnswer (now (index .entry)) rank lo hi (now (out .entry)) ⌝ }
+    ensures { λ _. ⌜ now (out .exit) ≡ descendantsOut (now (index .entry)) rank lo hi (now (out .entry)) ⌝ }
+{
+    navigate::descendants(index, rank, lo, hi, out)
+}
+
+#[no_mangle]
+pub extern "C" fn flowpewter_ancestors(
+    index: &[u32],
+    rank: u32,
+    lo: i32,
+    hi: i32,
+    out: &mut [u32],
+) -> Climbed
+    ensures { λ r. ⌜ r ≡ ancestorsAnswer (now (index .entry)) rank lo hi (now (out .entry)) ⌝ }
+    ensures { λ _. ⌜ now (out .exit) ≡ ancestorsOut (now (index .entry)) rank lo hi (now (out .entry)) ⌝ }
+{
+    navigate::ancestors(index, rank, lo, hi, out)
+}
+
+#[no_mangle]
+pub extern "C" fn flowpewter_siblings(index: &[u32], rank: u32, out: &mut [u32]) -> Listed
+    ensures { λ r. ⌜ r ≡ siblingsAnswer (now (index .entry)) rank (now (out .entry)) ⌝ }
+    ensures { λ _. ⌜ now (out .exit) ≡ siblingsOut (now (index .entry)) rank (now (out .entry)) ⌝ }
+{
+    navigate::siblings(index, rank, out)
+}
+
+#[no_mangle]
+pub extern "C" fn flowpewter_subtree_sum(index: &[u32], totals: &[i64], rank: u32) -> Summed
+    ensures { λ r. ⌜ r ≡ subtreeAnswer (now (index .entry)) (now (totals .entry)) rank ⌝ }
+{
+    sums::subtree_sum(index, totals, rank)
+}
+
+#[no_mangle]
+pub extern "C" fn flowpewter_path_sum(index: &[u32], totals: &[i64], rank: u32) -> Summed
+    ensures { λ r. ⌜ r ≡ pathAnswer (now (index .entry)) (now (totals .entry)) rank ⌝ }
+{
+    sums::path_sum(index, totals, rank)
+}
+
+#[no_mangle]
+pub extern "C" fn flowpewter_index_check(index: &[u32]) -> bool
+    ensures { λ r. ⌜ r ≡ accepts (now (index .entry)) ⌝ }
+{
+    index_check::index_check(index)
+}

@@ -1,0 +1,47 @@
+//! Edits, soundness and replay against the reference.
+
+use evidence::{edits, Tally};
+use generate::{Random, HISTORIES};
+
+#[test]
+fn histories() {
+    let mut random = Random::announced("histories", 41);
+    let mut tally = Tally::new();
+    for _ in 0..60 {
+        for kind in HISTORIES {
+            edits::histories(&mut random, kind, &mut tally);
+        }
+    }
+    println!("{tally}");
+    tally.expect("add", &[0, 2, 3], 100);
+    tally.expect("withdraw", &[0, 4], 100);
+    tally.expect("remark", &[0, 4], 100);
+    tally.expect("undo", &[0, 5], 100);
+}
+
+#[test]
+fn boards_that_no_history_makes() {
+    let mut random = Random::announced("boards", 42);
+    let mut tally = Tally::new();
+    for _ in 0..300 {
+        edits::boards(&mut random, &mut tally);
+    }
+    println!("{tally}");
+    tally.expect("add", &[0, 1, 2, 3], 100);
+    tally.expect("withdraw", &[0, 1, 4], 100);
+    tally.expect("remark", &[0, 1, 4], 100);
+    tally.expect("undo", &[0, 1, 5], 100);
+}
+
+#[test]
+fn replays() {
+    let mut random = Random::announced("replays", 43);
+    let mut tally = Tally::new();
+    for _ in 0..60 {
+        for kind in HISTORIES {
+            edits::replays(&mut random, kind, &mut tally);
+        }
+    }
+    println!("{tally}");
+    tally.expect("replay", &[0, 101, 102, 103], 10);
+}

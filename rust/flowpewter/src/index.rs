@@ -1,0 +1,206 @@
+//! Navigation over an index that anybody may have written.
+#![forbid(unsafe_code)]
+
+use crate::refusal::Refusal;
+use crate::sys;
+use std::ops::RangeInclusive;
+
+/// Words in the table of contents.
+pub const CONTENTS: usize = 8;
+/// Words in a body.
+pub const BODY: usize = 6;
+/// Most nodes that an index holds.
+pub const MAX_NODES: usize = 65_535;
+
+/// Words of an index of so many nodes.
+pub const fn index_len(nodes: usize) -> usize {
+    CONTENTS + BODY * nodes
+}
+
+/// Running totals of an index of so many nodes.
+pub const fn totals_len(nodes: usize) -> usize {
+    nodes + 1
+}
+
+/// A node's six words, unpacked. Ranks and row numbers are counted from 1.
+#[derive(Clone, Copy, Debug, PartialEq, Eq, Hash)]
+pub struct Body {
+    pub numeral: u32,
+    /// Number of the row that the node's path ends with.
+    pub row: u32,
+    /// The node and all nodes below it.
+    pub size: u32,
+    /// Rank of the parent, 0 for a root.
+    pub parent: u32,
+    /// Rank of the root above the node.
+    pub root: u32,
+    /// 1 for a root.
+    pub level: u32,
+    /// The path closes a cycle: its last numeral stands on it before.
+    pub closing: bool,
+    pub orphan: bool,
+}
+
+impl Body {
+    /// Unpacks the words of a body.
+    ///
+    /// ```
+    /// use flowpewter::Body;
+    ///
+    /// let body = Body::of_words([40, 6, 1, 2, 1, 3 | 1 << 30]);
+    /// assert_eq!((body.numeral, body.parent, body.level), (40, 2, 3));
+    /// assert!(body.closing && !body.orphan);
+    /// ```
+    pub fn of_words(words: [u32; BODY]) -> Body {
+        let [numeral, row, size, parent, root, last] = words;
+        Body {
+            numeral,
+            row,
+            size,
+            parent,
+            root,
+            level: last & 0xffff,
+            closing: last >> 30 & 1 == 1,
+            orphan: last >> 31 == 1,
+        }
+    }
+}
+
+/// The bodies of a part of an index, as [`span`] gives it.
+///
+/// ```
+/// use flowpewter::{bodies, span};
+///
+/// // Numeral 10 with 20 and 30 below it.
+/// let index = [
+///     3, 8, 6, 82, 0, 0, 0, 0,
+///     10, 1, 3, 0, 1, 1,
+///     20, 2, 1, 1, 1, 2,
+///     30, 3, 1, 1, 1, 2,
+/// ];
+/// let numerals: Vec<u32> = bodies(span(&index, 1)?).map(|body| body.numeral).collect();
+/// assert_eq!(numerals, [10, 20, 30]);
+/// # Ok::<(), flowpewter::Refusal>(())
+/// ```
+pub fn bodies(words: &[u32]) -> impl ExactSizeIterator<Item = Body> + '_ {
+    words.chunks_exact(BODY).map(|body| Body::of_words(body.try_into().expect("six words")))
+}
+
+/// The words of the bodies of a node and all nodes below it. Refused with 13, 14 or 15.
+pub fn span(index: &[u32], rank: u32) -> Result<&[u32], Refusal> {
+    let span = sys::span(index, rank);
+    Refusal::check(span.refusal)?;
+    Ok(&index[span.start..span.start + span.words])
+}
+
+/// The ranks of a node and all nodes below it whose distance, levels further down, is in the range, rising.
+/// They are put to the front of `list` and returned; the rest of it stays. Refused with 13 to 16, and then nothing is written.
+///
+/// ```
+/// use flowpewter::descendants;
+///
+/// let index = [
+///     3, 8, 6, 82, 0, 0, 0, 0,
+///     10, 1, 3, 0, 1, 1,
+///     20, 2, 1, 1, 1, 2,
+///     30, 3, 1, 1, 1, 2,
+/// ];
+/// let mut list = [0; 3];
+/// assert_eq!(descendants(&index, 1, 1..=i32::MAX, &mut list)?, [2, 3]);
+/// # Ok::<(), flowpewter::Refusal>(())
+/// ```
+pub fn descendants<'a>(
+    index: &[u32],
+    rank: u32,
+    distances: RangeInclusive<i32>,
+    list: &'a mut [u32],
+) -> Result<&'a [u32], Refusal> {
+    let listed = sys::descendants(index, rank, *distances.start(), *distances.end(), list);
+    Refusal::check(listed.refusal)?;
+    Ok(&list[..listed.len])
+}
+
+/// The ranks that [`ancestors`] lists, and the parent links that it followed.
+#[derive(Clone, Copy, Debug, PartialEq, Eq)]
+pub struct Ancestors<'a> {
+    pub ranks: &'a [u32],
+    /// Links to rank 0 aren't counted: on a built index this is the level less 1.
+    pub links: usize,
+}
+
+/// The ranks of a node and its ancestors, from the node up, whose distance (0 or less on a built index) is in the range.
+/// They are put to the front of `list` and returned; the rest of it stays. Refused with 13 to 16, and then nothing is written.
+///
+/// ```
+/// use flowpewter::ancestors;
+///
+/// let index = [
+///     2, 8, 6, 45, 0, 0, 0, 0,
+///     10, 1, 2, 0, 1, 1,
+///     20, 2, 1, 1, 1, 2,
+/// ];
+/// let mut list = [0; 2];
+/// let found = ancestors(&index, 2, i32::MIN..=0, &mut list)?;
+/// assert_eq!((found.ranks, found.links), ([2, 1].as_slice(), 1));
+/// # Ok::<(), flowpewter::Refusal>(())
+/// ```
+pub fn ancestors<'a>(
+    index: &[u32],
+    rank: u32,
+    distances: RangeInclusive<i32>,
+    list: &'a mut [u32],
+) -> Result<Ancestors<'a>, Refusal> {
+    let climbed = sys::ancestors(index, rank, *distances.start(), *distances.end(), list);
+    Refusal::check(climbed.refusal)?;
+    Ok(Ancestors { ranks: &list[..climbed.len], links: climbed.links })
+}
+
+/// All ranks with the same parent rank, the node included, rising; roots are siblings.
+/// They are put to the front of `list` and returned; the rest of it stays. Refused with 13, 14 or 16, and then nothing is written.
+pub fn siblings<'a>(index: &[u32], rank: u32, list: &'a mut [u32]) -> Result<&'a [u32], Refusal> {
+    let listed = sys::siblings(index, rank, list);
+    Refusal::check(listed.refusal)?;
+    Ok(&list[..listed.len])
+}
+
+/// The minutes of a node and all nodes below it. Refused with 13, 14 or 15.
+///
+/// ```
+/// use flowpewter::{path_sum, subtree_sum};
+///
+/// let index = [
+///     2, 8, 6, 45, 0, 0, 0, 0,
+///     10, 1, 2, 0, 1, 1,
+///     20, 2, 1, 1, 1, 2,
+/// ];
+/// let totals = [0, 30, 42];
+/// assert_eq!(subtree_sum(&index, &totals, 2)?, 12);
+/// assert_eq!(path_sum(&index, &totals, 2)?, 42);
+/// # Ok::<(), flowpewter::Refusal>(())
+/// ```
+pub fn subtree_sum(index: &[u32], totals: &[i64], rank: u32) -> Result<i64, Refusal> {
+    let summed = sys::subtree_sum(index, totals, rank);
+    Refusal::check(summed.refusal)?;
+    Ok(summed.sum)
+}
+
+/// The minutes of a node and all its ancestors. Refused with 13, 14 or 15.
+pub fn path_sum(index: &[u32], totals: &[i64], rank: u32) -> Result<i64, Refusal> {
+    let summed = sys::path_sum(index, totals, rank);
+    Refusal::check(summed.refusal)?;
+    Ok(summed.sum)
+}
+
+/// Whether the slice holds an index whose words agree with each other.
+///
+/// ```
+/// use flowpewter::index_check;
+///
+/// let mut index = [1, 8, 6, 13, 0, 0, 0, 0, 10, 0, 1, 0, 1, 1];
+/// assert!(index_check(&index));
+/// index[8] = 11;
+/// assert!(!index_check(&index));
+/// ```
+pub fn index_check(index: &[u32]) -> bool {
+    sys::index_check(index)
+}

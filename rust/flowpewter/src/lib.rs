@@ -1,0 +1,22 @@
+//! Parts lists with undo, their forest of paths as an index, navigation and sums.
+//!
+//! * [`Board`]: rows with a parent, a numeral, an order and minutes; edits and undo.
+//! * [`span`], [`descendants`], [`ancestors`], [`siblings`]: navigation by rank.
+//! * [`subtree_sum`], [`path_sum`]: minutes below a node and on the way up from it.
+//! * [`index_check`]: whether a slice from anywhere is an index.
+//! * [`replay`]: a list of edits as words.
+//!
+//! Every call takes every argument: what can't be done is refused, by a [`Refusal`], and never a panic.
+#![deny(unsafe_code)]
+
+mod board;
+mod index;
+mod refusal;
+pub mod sys;
+
+pub use board::{replay, Board, Call, Entry, Row, MAX_KEPT, MAX_ROWS};
+pub use index::{
+    ancestors, bodies, descendants, index_check, index_len, path_sum, siblings, span, subtree_sum,
+    totals_len, Ancestors, Body, BODY, CONTENTS, MAX_NODES,
+};
+pub use refusal::{Refusal, REFUSALS};

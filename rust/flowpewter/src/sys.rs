@@ -1,0 +1,184 @@
+//! The C face in Rust types: each function is safe for every argument, and answers the refusal number, 0 for none.
+//!
+//! This is the one module with unsafe code. Each call hands over pointers and lengths of slices that are borrowed for
+//! the call, and plain structs; the other side is proved to stay inside them.
+#![allow(unsafe_code)]
+
+use crate::board::{Board, Row};
+
+/// What an edit answers; of a refused edit the board is the one it got.
+#[repr(C)]
+#[derive(Clone, Copy, Debug, PartialEq, Eq)]
+pub struct Edited {
+    pub board: Board,
+    pub refusal: u32,
+}
+
+/// What a replay answers: the number of calls and the board after them; none and the empty board if refused.
+#[repr(C)]
+#[derive(Clone, Copy, Debug, PartialEq, Eq)]
+pub struct Replayed {
+    pub refusal: u32,
+    pub calls: usize,
+    pub board: Board,
+}
+
+/// Where a span stands in the index slice.
+#[repr(C)]
+#[derive(Clone, Copy, Debug, PartialEq, Eq)]
+pub struct Span {
+    pub refusal: u32,
+    pub start: usize,
+    pub words: usize,
+}
+
+/// What a call that lists ranks answers.
+#[repr(C)]
+#[derive(Clone, Copy, Debug, PartialEq, Eq)]
+pub struct Listed {
+    pub refusal: u32,
+    pub len: usize,
+}
+
+/// What a call that lists ancestors answers.
+#[repr(C)]
+#[derive(Clone, Copy, Debug, PartialEq, Eq)]
+pub struct Climbed {
+    pub refusal: u32,
+    pub len: usize,
+    pub links: usize,
+}
+
+/// What a call that sums minutes answers.
+#[repr(C)]
+#[derive(Clone, Copy, Debug, PartialEq, Eq)]
+pub struct Summed {
+    pub refusal: u32,
+    pub sum: i64,
+}
+
+extern "C" {
+    fn flowpewter_empty() -> Board;
+    fn flowpewter_sound(board: Board) -> bool;
+    fn flowpewter_add(board: Board, row: Row) -> Edited;
+    fn flowpewter_withdraw(board: Board, k: usize) -> Edited;
+    fn flowpewter_remark(board: Board, k: usize, minutes: i32) -> Edited;
+    fn flowpewter_undo(board: Board) -> Edited;
+    fn flowpewter_replay(
+        words: *const u32,
+        words_len: usize,
+        refusals: *mut u32,
+        refusals_len: usize,
+    ) -> Replayed;
+    fn flowpewter_span(index: *const u32, index_len: usize, rank: u32) -> Span;
+    fn flowpewter_descendants(
+        index: *const u32,
+        index_len: usize,
+        rank: u32,
+        lo: i32,
+        hi: i32,
+        out: *mut u32,
+        out_len: usize,
+    ) -> Listed;
+    fn flowpewter_ancestors(
+        index: *const u32,
+        index_len: usize,
+        rank: u32,
+        lo: i32,
+        hi: i32,
+        out: *mut u32,
+        out_len: usize,
+    ) -> Climbed;
+    fn flowpewter_siblings(
+        index: *const u32,
+        index_len: usize,
+        rank: u32,
+        out: *mut u32,
+        out_len: usize,
+    ) -> Listed;
+    fn flowpewter_subtree_sum(
+        index: *const u32,
+        index_len: usize,
+        totals: *const i64,
+        totals_len: usize,
+        rank: u32,
+    ) -> Summed;
+    fn flowpewter_path_sum(
+        index: *const u32,
+        index_len: usize,
+        totals: *const i64,
+        totals_len: usize,
+        rank: u32,
+    ) -> Summed;
+    fn flowpewter_index_check(index: *const u32, index_len: usize) -> bool;
+}
+
+pub fn empty() -> Board {
+    unsafe { flowpewter_empty() }
+}
+
+pub fn sound(board: &Board) -> bool {
+    unsafe { flowpewter_sound(*board) }
+}
+
+pub fn add(board: &Board, row: Row) -> Edited {
+    unsafe { flowpewter_add(*board, row) }
+}
+
+pub fn withdraw(board: &Board, k: usize) -> Edited {
+    unsafe { flowpewter_withdraw(*board, k) }
+}
+
+pub fn remark(board: &Board, k: usize, minutes: i32) -> Edited {
+    unsafe { flowpewter_remark(*board, k, minutes) }
+}
+
+pub fn undo(board: &Board) -> Edited {
+    unsafe { flowpewter_undo(*board) }
+}
+
+pub fn replay(words: &[u32], refusals: &mut [u32]) -> Replayed {
+    unsafe { flowpewter_replay(words.as_ptr(), words.len(), refusals.as_mut_ptr(), refusals.len()) }
+}
+
+pub fn span(index: &[u32], rank: u32) -> Span {
+    unsafe { flowpewter_span(index.as_ptr(), index.len(), rank) }
+}
+
+pub fn descendants(index: &[u32], rank: u32, lo: i32, hi: i32, out: &mut [u32]) -> Listed {
+    unsafe {
+        flowpewter_descendants(
+            index.as_ptr(),
+            index.len(),
+            rank,
+            lo,
+            hi,
+            out.as_mut_ptr(),
+            out.len(),
+        )
+    }
+}
+
+pub fn ancestors(index: &[u32], rank: u32, lo: i32, hi: i32, out: &mut [u32]) -> Climbed {
+    unsafe {
+        flowpewter_ancestors(index.as_ptr(), index.len(), rank, lo, hi, out.as_mut_ptr(), out.len())
+    }
+}
+
+pub fn siblings(index: &[u32], rank: u32, out: &mut [u32]) -> Listed {
+    unsafe { flowpewter_siblings(index.as_ptr(), index.len(), rank, out.as_mut_ptr(), out.len()) }
+}
+
+pub fn subtree_sum(index: &[u32], totals: &[i64], rank: u32) -> Summed {
+    unsafe {
+        flowpewter_subtree_sum(index.as_ptr(), index.len(), totals.as_ptr(), totals.len(), rank)
+    }
+}
+
+pub fn path_sum(index: &[u32], totals: &[i64], rank: u32) -> Summed {
+    unsafe { flowpewter_path_sum(index.as_ptr(), index.len(), totals.as_ptr(), totals.len(), rank) }
+}
+
+pub fn index_check(index: &[u32]) -> bool {
+    unsafe { flowpewter_index_check(index.as_ptr(), index.len()) }
+}

@@ -1,0 +1,238 @@
+//! Built, foreign, damaged and random index slices, totals, and navigation cases.
+
+use crate::builds::{node_count, options, rows, start, start_of, SHAPES};
+use crate::random::Random;
+use reference::{ancestors, build, descendants, siblings, BODY, CONTENTS};
+
+/// A built index and its totals, with up to 20 words beyond.
+pub fn built(random: &mut Random) -> (Vec<u32>, Vec<i64>) {
+    loop {
+        let shape = random.pick(&SHAPES);
+        let size = random.between(1, 40);
+        let rows = rows(random, shape, size);
+        let (code, depth) = options(random);
+        let start = start(random, &rows);
+        let n = match node_count(&rows, code, depth, start_of(&start), 400) {
+            None => continue,
+            Some(n) => n,
+        };
+        let beyond = random.below(20);
+        let mut index = random.noise(CONTENTS + BODY * n + beyond);
+        let mut totals = random.wide_noise(n + 1 + beyond);
+        let built = build(&rows, code, depth, start_of(&start), &mut index, &mut totals);
+        if built.refusal == 0 {
+            return (index, totals);
+        }
+    }
+}
+
+/// Sets the check word to the sum of the body words.
+pub fn seal(index: &mut [u32]) {
+    let end = CONTENTS + BODY * index[0] as usize;
+    index[3] = index[CONTENTS..end].iter().fold(0, |sum: u32, word| sum.wrapping_add(*word));
+}
+
+/// A right index no build made: a random forest of `n` nodes, with any numerals,
+/// row numbers and flags.
+pub fn foreign(random: &mut Random, n: usize) -> Vec<u32> {
+    // The chain from a root down to the last node.
+    let mut chain: Vec<usize> = Vec::new();
+    let mut parents = vec![0; n + 1];
+    let steep = random.between(1, 6);
+    for (rank, parent) in parents.iter_mut().enumerate().skip(1) {
+        while !chain.is_empty() && random.chance(1, steep) {
+            chain.pop();
+        }
+        *parent = chain.last().copied().unwrap_or(0);
+        chain.push(rank);
+    }
+    let mut sizes = vec![1u32; n + 1];
+    let mut levels = vec![0u32; n + 1];
+    let mut roots = vec![0u32; n + 1];
+    for rank in 1..=n {
+        let parent = parents[rank];
+        levels[rank] = levels[parent] + 1;
+        roots[rank] = if parent == 0 { rank as u32 } else { roots[parent] };
+    }
+    for rank in (1..=n).rev() {
+        if parents[rank] != 0 {
+            sizes[parents[rank]] += sizes[rank];
+        }
+    }
+    let mut index = vec![n as u32, 8, 6, 0, 0, 0, 0, 0];
+    for rank in 1..=n {
+        let flags = (random.below(4) as u32) << 30;
+        let parent = parents[rank] as u32;
+        let (numeral, row) = (random.word(), random.word());
+        index.extend([numeral, row, sizes[rank], parent, roots[rank], levels[rank] + flags]);
+    }
+    seal(&mut index);
+    index
+}
+
+/// Changes one to three words of an index that has its bodies; the check word is
+/// put right again in two of three cases.
+pub fn damage(random: &mut Random, index: &mut [u32]) {
+    let n = index[0] as usize;
+    for _ in 0..random.between(1, 3) {
+        let at = if n == 0 || random.chance(1, 8) {
+            random.below(CONTENTS)
+        } else {
+            // Sizes, parents, roots and levels more than numerals and row numbers.
+            let word = random.pick(&[0, 1, 2, 2, 2, 3, 3, 3, 4, 4, 5, 5, 5]);
+            CONTENTS + BODY * random.below(n) + word
+        };
+        let old = index[at];
+        index[at] = match random.below(8) {
+            0 => 0,
+            1 => old.wrapping_add(1),
+            2 => old.wrapping_sub(1),
+            3 => random.pick(&[u32::MAX, u32::MAX - 1, 1 << 31]),
+            4 => old ^ (1 << random.below(32)),
+            5 => random.below(n + 3) as u32,
+            6 => random.word(),
+            _ => random.draw() as u32,
+        };
+    }
+    let header = CONTENTS as u64 + BODY as u64 * index[0] as u64;
+    if header <= index.len() as u64 && random.chance(2, 3) {
+        seal(index);
+    }
+}
+
+/// An index slice: built, foreign, damaged, random bodies under a right table of
+/// contents, cut short, or noise.
+pub fn index(random: &mut Random) -> Vec<u32> {
+    match random.below(12) {
+        0 | 1 => built(random).0,
+        2 | 3 => {
+            let n = random.below(60);
+            foreign(random, n)
+        }
+        4..=6 => {
+            let mut index = built(random).0;
+            damage(random, &mut index);
+            index
+        }
+        7 | 8 => {
+            let n = random.below(30);
+            let mut index = foreign(random, n);
+            damage(random, &mut index);
+            index
+        }
+        9 => {
+            // Small words, so that sizes and parents are often in range.
+            let n = random.below(12);
+            let mut index = vec![n as u32, 8, 6, 0, 0, 0, 0, 0];
+            for _ in 0..BODY * n {
+                index.push(if random.chance(1, 8) {
+                    random.word()
+                } else {
+                    random.below(n + 2) as u32
+                });
+            }
+            seal(&mut index);
+            index
+        }
+        10 => {
+            let mut index = built(random).0;
+            let length = random.below(index.len() + 1);
+            index.truncate(length);
+            index
+        }
+        _ => {
+            let length = random.below(40);
+            let mut index = random.noise(length);
+            if length > 2 && random.chance(1, 2) {
+                index[0] = random.below(8) as u32;
+                index[1] = 8;
+                index[2] = 6;
+            }
+            index
+        }
+    }
+}
+
+/// A total: small, at the limits of use, or any.
+pub fn total(random: &mut Random) -> i64 {
+    let edge = 1i64 << 47;
+    match random.below(8) {
+        0 => random.pick(&[edge, -edge, edge - 1, 1 - edge]),
+        1 => random.pick(&[edge + 1, -edge - 1, i64::MIN, i64::MAX, i64::MIN + 1]),
+        2 => random.draw() as i64,
+        3 => random.pick(&[1 << 31, (1 << 31) - 1, -(1 << 31), -(1 << 31) - 1]),
+        _ => random.minutes() as i64,
+    }
+}
+
+/// Totals for `n` nodes: running sums mostly, some words replaced, or any words;
+/// sometimes too few or more than needed.
+pub fn totals(random: &mut Random, n: usize) -> Vec<i64> {
+    let length = match random.below(10) {
+        0 => random.below(n + 1),
+        1 => n,
+        2 => n + 1 + random.below(9),
+        _ => n + 1,
+    };
+    if random.chance(1, 4) {
+        return (0..length).map(|_| total(random)).collect();
+    }
+    let mut sum = if random.chance(1, 4) { random.minutes() as i64 * 1_000 } else { 0 };
+    let mut list = Vec::new();
+    for _ in 0..length {
+        list.push(sum);
+        sum += random.minutes() as i64;
+    }
+    if !list.is_empty() && random.chance(1, 3) {
+        let place = random.below(length);
+        list[place] = total(random);
+    }
+    list
+}
+
+/// Arguments for every navigation call; the list is filled with noise beforehand.
+#[derive(Clone, Debug)]
+pub struct NavigationCase {
+    pub index: Vec<u32>,
+    pub totals: Vec<i64>,
+    pub rank: u32,
+    pub lower: i32,
+    pub upper: i32,
+    pub list: Vec<u32>,
+}
+
+/// A random navigation case. The list's length is often what one of the list
+/// calls needs, or one less.
+pub fn navigation_case(random: &mut Random) -> NavigationCase {
+    let index = index(random);
+    let n = index.first().map_or(0, |n| *n as usize).min(index.len() / BODY);
+    let totals = totals(random, n);
+    let rank = match random.below(12) {
+        0 => 0,
+        1 => n as u32 + random.between(1, 3) as u32,
+        2 => random.word(),
+        3 => n as u32,
+        _ => random.between(1, n.max(1)) as u32,
+    };
+    let (lower, upper) = match random.below(4) {
+        0 => (i32::MIN, i32::MAX),
+        1 => (random.limit().min(0), random.limit().max(0)),
+        _ => (random.limit(), random.limit()),
+    };
+    let mut wide = vec![0; index.len()];
+    let needed = match random.below(3) {
+        0 => descendants(&index, rank, lower, upper, &mut wide).length,
+        1 => ancestors(&index, rank, lower, upper, &mut wide).length,
+        _ => siblings(&index, rank, &mut wide).length,
+    } as usize;
+    let length = match random.below(6) {
+        0 => needed.saturating_sub(1),
+        1 => random.below(needed + 1),
+        2 => 0,
+        3 => needed + random.between(1, 9),
+        4 => n,
+        _ => needed,
+    };
+    let list = random.noise(length);
+    NavigationCase { index, totals, rank, lower, upper, list }
+}

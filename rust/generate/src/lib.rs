@@ -1,0 +1,21 @@
+//! Deterministic random cases for boards, builds, navigation, the index check
+//! and the listing program.
+//!
+//! Every generator is a plain function of a [`Random`]; the same seed gives the
+//! same cases. The reference is used only to learn how long a slice a case
+//! needs and to obtain built indexes to damage.
+#![forbid(unsafe_code)]
+
+pub mod boards;
+pub mod builds;
+pub mod histories;
+pub mod indexes;
+pub mod listings;
+pub mod random;
+
+pub use boards::{holding, sound_boards, unsound_boards};
+pub use builds::{build_case, rows, BuildCase, Shape, SHAPES};
+pub use histories::{history, History, HISTORIES};
+pub use indexes::{index, navigation_case, totals, NavigationCase};
+pub use listings::listing;
+pub use random::Random;

@@ -1,0 +1,126 @@
+//! The guide's base tables (sections 2.3 and 5) as rows.
+//!
+//! A node id of two characters becomes the numeral made of its two ASCII bytes,
+//! so that numerals sort as the ids do. A missing parent is 0.
+
+use reference::Row;
+
+/// The numeral of a node id; of "-" 0.
+pub fn numeral(id: &str) -> u32 {
+    match id.as_bytes() {
+        [b'-'] => 0,
+        [first, second] => *first as u32 * 256 + *second as u32,
+        _ => panic!("node id {id}"),
+    }
+}
+
+/// The node id of a numeral; of 0 "-".
+pub fn id(numeral: u32) -> String {
+    if numeral == 0 {
+        return "-".to_string();
+    }
+    [(numeral / 256) as u8 as char, (numeral % 256) as u8 as char].iter().collect()
+}
+
+/// T_DEMO: parent_id, node_id, ord, amount.
+pub const T_DEMO: [(&str, &str, u32, i32); 10] = [
+    ("-", "A1", 1, 1),
+    ("A1", "B1", 1, 2),
+    ("A1", "B2", 2, 4),
+    ("B1", "C1", 1, 1),
+    ("B1", "C2", 2, 3),
+    ("B2", "C3", 3, 1),
+    ("B2", "C4", 4, 2),
+    ("C3", "D1", 1, 2),
+    ("C3", "D2", 2, 3),
+    ("C4", "D3", 3, 1),
+];
+
+/// T_DEMO_ERR: parent_id, node_id, tree (0 for NULL).
+pub const T_DEMO_ERR: [(&str, &str, u32); 18] = [
+    ("-", "E1", 1),
+    ("E1", "F1", 1),
+    ("E1", "F2", 1),
+    ("F1", "G1", 1),
+    ("F2", "G1", 1),
+    ("-", "E2", 2),
+    ("E2", "F3", 2),
+    ("E2", "F4", 2),
+    ("F3", "G2", 2),
+    ("F4", "G2", 2),
+    ("G2", "H1", 2),
+    ("-", "E3", 3),
+    ("E3", "F5", 3),
+    ("F5", "G3", 3),
+    ("G3", "H1", 3),
+    ("G3", "H2", 3),
+    ("H2", "F5", 3),
+    ("E4", "F6", 0),
+];
+
+/// H_DEMO_FACTS: node, amount_dec_fact in hundredths.
+pub const H_DEMO_FACTS: [(&str, i32); 13] = [
+    ("A1", 530),
+    ("B1", 190),
+    ("B2", 180),
+    ("C1", 630),
+    ("C3", 440),
+    ("C4", 820),
+    ("D1", 50),
+    ("D2", 270),
+    ("D3", 390),
+    ("D3", 510),
+    ("X1", 800),
+    ("X2", 990),
+    ("-", 760),
+];
+
+/// T_DEMO_COMPOSITE with the components joined: parent, node, ord.
+pub const T_DEMO_COMPOSITE: [(&str, &str, u32); 3] =
+    [("-", "X1", 1), ("X1", "Y1", 1), ("X1", "Y2", 2)];
+
+/// T_DEMO, siblings ordered by ord, minutes the amount.
+pub fn t_demo() -> Vec<Row> {
+    T_DEMO
+        .iter()
+        .map(|&(parent, node, ord, amount)| Row::new(numeral(parent), numeral(node), ord, amount))
+        .collect()
+}
+
+/// The rows of T_DEMO_ERR in the given trees, siblings ordered by node id.
+pub fn t_demo_err(trees: &[u32]) -> Vec<Row> {
+    T_DEMO_ERR
+        .iter()
+        .filter(|(_, _, tree)| trees.contains(tree))
+        .map(|&(parent, node, _)| Row::new(numeral(parent), numeral(node), numeral(node), 0))
+        .collect()
+}
+
+/// T_DEMO with a measure of the joined facts of each node as minutes.
+pub fn t_demo_facts(measure: fn(&[i32]) -> i32) -> Vec<Row> {
+    let mut rows = t_demo();
+    for row in &mut rows {
+        let facts: Vec<i32> = H_DEMO_FACTS
+            .iter()
+            .filter(|(node, _)| numeral(node) == row.numeral)
+            .map(|(_, hundredths)| *hundredths)
+            .collect();
+        row.minutes = measure(&facts);
+    }
+    rows
+}
+
+/// T_DEMO_COMPOSITE, siblings ordered by ord.
+pub fn t_demo_composite() -> Vec<Row> {
+    T_DEMO_COMPOSITE
+        .iter()
+        .map(|&(parent, node, ord)| Row::new(numeral(parent), numeral(node), ord, 0))
+        .collect()
+}
+
+/// The source of section 8.9: nodes 1 to 100, four children to a node.
+pub fn synthetic() -> Vec<Row> {
+    (1..=100)
+        .map(|node| Row::new(if node <= 4 { 0 } else { (node - 1) / 4 }, node, node, 0))
+        .collect()
+}

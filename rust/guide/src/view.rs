@@ -1,0 +1,173 @@
+//! A built hierarchy, and the comparison with a printed table.
+
+use crate::tables::{id, numeral};
+use crate::{Engine, Image};
+use reference::{Row, Start};
+
+/// A hierarchy over some rows.
+pub struct View<'a> {
+    pub engine: &'a dyn Engine,
+    pub rows: Vec<Row>,
+    pub image: Image,
+    /// Names a numeral.
+    pub name: fn(u32) -> String,
+}
+
+/// A result row: a node, and the start node it was found from.
+#[derive(Clone, Copy, Debug, PartialEq, Eq)]
+pub struct Pick {
+    pub rank: u32,
+    pub start: u32,
+}
+
+/// The option code.
+pub fn code(orphan: u32, multi: u32, cycle: u32) -> u32 {
+    orphan + 4 * multi + 12 * cycle
+}
+
+/// The lines of a printed table, spaces made single.
+pub fn lines(printed: &str) -> Vec<String> {
+    let single = |line: &str| line.split_whitespace().collect::<Vec<_>>().join(" ");
+    printed.trim().lines().map(single).collect()
+}
+
+impl<'a> View<'a> {
+    /// Builds a view; its index must pass the index check.
+    pub fn new(
+        engine: &'a dyn Engine,
+        rows: Vec<Row>,
+        code: u32,
+        depth: Option<i32>,
+        start: Start,
+    ) -> View<'a> {
+        let image = engine.build(&rows, code, depth, start).expect("build accepted");
+        assert!(engine.index_check(&image.index), "index check");
+        View { engine, rows, image, name: id }
+    }
+
+    /// Builds a view with the default options.
+    pub fn default(engine: &'a dyn Engine, rows: Vec<Row>) -> View<'a> {
+        View::new(engine, rows, 0, None, Start::ParentZero)
+    }
+
+    /// All ranks.
+    pub fn ranks(&self) -> Vec<u32> {
+        (1..=self.image.nodes()).collect()
+    }
+
+    /// All nodes, each its own start.
+    pub fn all(&self) -> Vec<Pick> {
+        self.ranks().into_iter().map(|rank| Pick { rank, start: rank }).collect()
+    }
+
+    /// The one rank of a node id.
+    pub fn rank_of(&self, id: &str) -> u32 {
+        let ranks = self.ranks();
+        let found: Vec<u32> = ranks
+            .into_iter()
+            .filter(|rank| self.image.body(*rank).numeral == numeral(id))
+            .collect();
+        assert_eq!(found.len(), 1, "one rank of {id}");
+        found[0]
+    }
+
+    /// The node id of a rank.
+    pub fn id_of(&self, rank: u32) -> String {
+        (self.name)(self.image.body(rank).numeral)
+    }
+
+    /// Descendants of a start node within the limits.
+    pub fn descendants(&self, start: u32, lower: i32, upper: i32) -> Vec<Pick> {
+        let ranks = self.engine.descendants(&self.image.index, start, lower, upper);
+        ranks.expect("descendants accepted").into_iter().map(|rank| Pick { rank, start }).collect()
+    }
+
+    /// Ancestors of a start node within the limits, nearest first.
+    pub fn ancestors(&self, start: u32, lower: i32, upper: i32) -> Vec<Pick> {
+        let found = self.engine.ancestors(&self.image.index, start, lower, upper);
+        let (ranks, links) = found.expect("ancestors accepted");
+        assert_eq!(links + 1, self.image.body(start).level, "links of {start}");
+        ranks.into_iter().map(|rank| Pick { rank, start }).collect()
+    }
+
+    /// Siblings of a start node.
+    pub fn siblings(&self, start: u32) -> Vec<Pick> {
+        let ranks = self.engine.siblings(&self.image.index, start).expect("siblings accepted");
+        ranks.into_iter().map(|rank| Pick { rank, start }).collect()
+    }
+
+    /// Sum over the subtree of a rank.
+    pub fn subtree_sum(&self, rank: u32) -> i64 {
+        let sum = self.engine.subtree_sum(&self.image.index, &self.image.totals, rank);
+        sum.expect("subtree sum accepted")
+    }
+
+    /// Sum over the path to a rank.
+    pub fn path_sum(&self, rank: u32) -> i64 {
+        let sum = self.engine.path_sum(&self.image.index, &self.image.totals, rank);
+        sum.expect("path sum accepted")
+    }
+
+    /// Whether a rank lies in the span of another.
+    pub fn in_span(&self, rank: u32, of: u32) -> bool {
+        let words = self.engine.span(&self.image.index, of).expect("span accepted");
+        assert_eq!(words.len() % 6, 0);
+        of <= rank && rank < of + words.len() as u32 / 6
+    }
+
+    /// The amount of a node: the minutes of its row.
+    pub fn amount(&self, rank: u32) -> i32 {
+        self.rows[self.image.body(rank).row as usize - 1].minutes
+    }
+
+    /// The ids from the root, or from a start node, to a rank.
+    pub fn path(&self, rank: u32, from: Option<u32>) -> String {
+        let lower = match from {
+            None => i32::MIN,
+            Some(from) => self.image.body(from).level as i32 - self.image.body(rank).level as i32,
+        };
+        let mut ids: Vec<String> =
+            self.ancestors(rank, lower, 0).iter().map(|pick| self.id_of(pick.rank)).collect();
+        ids.reverse();
+        ids.join("/")
+    }
+
+    /// One value of a result row, by the guide's column name.
+    fn column(&self, column: &str, pick: &Pick) -> String {
+        let body = self.image.body(pick.rank);
+        match column {
+            "RANK" | "HIERARCHY_RANK" => pick.rank.to_string(),
+            "TREE_SIZE" => body.size.to_string(),
+            "PARENT_RANK" => body.parent.to_string(),
+            "LEVEL" | "HIERARCHY_LEVEL" => body.level.to_string(),
+            "ROOT_RANK" => body.root.to_string(),
+            "IS_CYCLE" | "HIERARCHY_IS_CYCLE" => (body.closing as u32).to_string(),
+            "IS_ORPHAN" => (body.orphan as u32).to_string(),
+            "PARENT_ID" => (self.name)(self.rows[body.row as usize - 1].parent),
+            "NODE_ID" | "LEAF_ID" | "GRANDPARENT_ID" => (self.name)(body.numeral),
+            "DISTANCE" | "HIERARCHY_DISTANCE" => {
+                let start = self.image.body(pick.start);
+                (body.level as i64 - start.level as i64).to_string()
+            }
+            "SIBLING_DISTANCE" | "HIERARCHY_SIBLING_DISTANCE" => {
+                (pick.rank as i64 - pick.start as i64).to_string()
+            }
+            "START_RANK" => pick.start.to_string(),
+            "START_ID" => self.id_of(pick.start),
+            "AMOUNT" => self.amount(pick.rank).to_string(),
+            _ => panic!("column {column}"),
+        }
+    }
+
+    /// Compares result rows with a printed table, whose first line names the columns.
+    pub fn check(&self, picks: &[Pick], printed: &str) {
+        let mut expected = lines(printed);
+        let header = expected.remove(0);
+        let columns: Vec<&str> = header.split(' ').collect();
+        let found: Vec<String> = picks
+            .iter()
+            .map(|pick| columns.iter().map(|c| self.column(c, pick)).collect::<Vec<_>>().join(" "))
+            .collect();
+        assert_eq!(found, expected, "{header}");
+    }
+}

@@ -1,0 +1,105 @@
+//! The guide's examples through the reference.
+
+use guide::{Engine, Image};
+use reference::*;
+
+struct Reference;
+
+const NODES: usize = 1_000;
+
+fn of(refusal: u32) -> Result<(), u32> {
+    if refusal == 0 {
+        Ok(())
+    } else {
+        Err(refusal)
+    }
+}
+
+impl Engine for Reference {
+    fn build(
+        &self,
+        rows: &[Row],
+        code: u32,
+        depth: Option<i32>,
+        start: Start,
+    ) -> Result<Image, u32> {
+        let mut index = vec![0; 8 + 6 * NODES];
+        let mut totals = vec![0; NODES + 1];
+        let built = build(rows, code, depth, start, &mut index, &mut totals);
+        of(built.refusal)?;
+        assert_eq!(built.nodes, index[0]);
+        Ok(Image { index, totals, left: built.left })
+    }
+
+    fn descendants(
+        &self,
+        index: &[u32],
+        rank: u32,
+        lower: i32,
+        upper: i32,
+    ) -> Result<Vec<u32>, u32> {
+        let mut list = vec![0; NODES];
+        let listed = descendants(index, rank, lower, upper, &mut list);
+        of(listed.refusal)?;
+        list.truncate(listed.length as usize);
+        Ok(list)
+    }
+
+    fn ancestors(
+        &self,
+        index: &[u32],
+        rank: u32,
+        lower: i32,
+        upper: i32,
+    ) -> Result<(Vec<u32>, u32), u32> {
+        let mut list = vec![0; NODES];
+        let climbed = ancestors(index, rank, lower, upper, &mut list);
+        of(climbed.refusal)?;
+        list.truncate(climbed.length as usize);
+        Ok((list, climbed.links))
+    }
+
+    fn siblings(&self, index: &[u32], rank: u32) -> Result<Vec<u32>, u32> {
+        let mut list = vec![0; NODES];
+        let listed = siblings(index, rank, &mut list);
+        of(listed.refusal)?;
+        list.truncate(listed.length as usize);
+        Ok(list)
+    }
+
+    fn span(&self, index: &[u32], rank: u32) -> Result<Vec<u32>, u32> {
+        let spanned = span(index, rank);
+        of(spanned.refusal)?;
+        Ok(index[spanned.words].to_vec())
+    }
+
+    fn subtree_sum(&self, index: &[u32], totals: &[i64], rank: u32) -> Result<i64, u32> {
+        let summed = subtree_sum(index, totals, rank);
+        of(summed.refusal).map(|()| summed.sum)
+    }
+
+    fn path_sum(&self, index: &[u32], totals: &[i64], rank: u32) -> Result<i64, u32> {
+        let summed = path_sum(index, totals, rank);
+        of(summed.refusal).map(|()| summed.sum)
+    }
+
+    fn index_check(&self, index: &[u32]) -> bool {
+        index_check(index)
+    }
+}
+
+guide::run_examples!(Reference);
+
+/// Every example is in the list of `run_examples!`.
+#[test]
+fn every_example_is_run() {
+    let source = include_str!("../src/examples.rs");
+    let list = include_str!("../src/lib.rs");
+    let mut count = 0;
+    for line in source.lines().filter_map(|line| line.strip_prefix("pub fn ")) {
+        let name = line.split('(').next().unwrap();
+        assert!(list.lines().any(|line| line.trim() == name), "{name} is not run");
+        count += 1;
+    }
+    assert_eq!(count, 58);
+}

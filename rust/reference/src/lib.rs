@@ -1,0 +1,40 @@
+//! Reference implementation of numeral trees, as plain as the paper's sentences.
+//!
+//! * [`machine`]: the plain machine, a row list R and a list K of earlier row lists.
+//! * [`board`]: the board record, its soundness and the edits on it.
+//! * [`forest`]: paths, nodes, their order and the build of the index image.
+//! * [`navigation`]: span, descendants, ancestors, siblings and sums on any slices.
+//! * [`check`]: the index check.
+//! * [`listing`]: the listing program as a function from input to output.
+//!
+//! A refusal is the paper's number; 0 stands for none.
+#![forbid(unsafe_code)]
+// Conditions are written as the sentences have them.
+#![allow(clippy::int_plus_one, clippy::manual_range_contains, clippy::should_implement_trait)]
+
+pub mod board;
+pub mod check;
+pub mod forest;
+pub mod listing;
+pub mod machine;
+pub mod navigation;
+
+pub use board::{Board, Edited, Entry, Row};
+pub use check::index_check;
+pub use forest::{build, build_board, Body, Built, Forest, Node, Options, Start};
+pub use listing::numerals;
+pub use machine::{Call, Machine};
+pub use navigation::{
+    ancestors, descendants, path_sum, siblings, span, subtree_sum, Climbed, Listed, Spanned, Summed,
+};
+
+/// Places for rows on a board.
+pub const MAX_ROWS: usize = 1_024;
+/// Places for journal entries on a board.
+pub const MAX_KEPT: usize = 256;
+/// Most nodes an index may hold.
+pub const MAX_NODES: usize = 65_535;
+/// Words in the table of contents.
+pub const CONTENTS: usize = 8;
+/// Words in a body.
+pub const BODY: usize = 6;

@@ -1,0 +1,740 @@
+//! Edges of the sentences, worked out by hand.
+
+use reference::*;
+
+fn row(parent: u32, numeral: u32, order: u32) -> Row {
+    Row::new(parent, numeral, order, 1)
+}
+
+struct Image {
+    built: Built,
+    index: Vec<u32>,
+    totals: Vec<i64>,
+}
+
+fn build_all(rows: &[Row], code: u32, depth: Option<i32>, start: Start) -> Image {
+    let mut index = vec![99; 8 + 6 * 4_000];
+    let mut totals = vec![99; 4_001];
+    let built = build(rows, code, depth, start, &mut index, &mut totals);
+    if built.refusal == 0 {
+        assert!(index_check(&index));
+    }
+    Image { built, index, totals }
+}
+
+/// Row number, parent rank, level, closing, orphan of each node.
+fn shape(image: &Image) -> Vec<(u32, u32, u32, bool, bool)> {
+    (1..=image.built.nodes as usize)
+        .map(|rank| Body::read(&image.index, rank))
+        .map(|b| (b.row, b.parent, b.level, b.closing, b.orphan))
+        .collect()
+}
+
+fn accepted(nodes: u32, left: u32) -> Built {
+    Built { refusal: 0, nodes, left }
+}
+
+fn refused(refusal: u32) -> Built {
+    Built { refusal, nodes: 0, left: 0 }
+}
+
+#[test]
+fn options_follow_the_formula() {
+    for cycle in 0..2 {
+        for multi in 0..3 {
+            for orphan in 0..4 {
+                let options = Options::read(orphan + 4 * multi + 12 * cycle).unwrap();
+                assert_eq!(options, Options { orphan, multi, cycle });
+            }
+        }
+    }
+    assert_eq!(Options::read(24), None);
+    assert_eq!(Options::read(u32::MAX), None);
+}
+
+#[test]
+fn self_ring_entered_at_a_start_row() {
+    let rows = [row(5, 5, 1)];
+    let image = build_all(&rows, 0, None, Start::Numerals(&[5]));
+    assert_eq!(image.built, accepted(2, 0));
+    assert_eq!(shape(&image), [(1, 0, 1, false, false), (1, 1, 2, true, false)]);
+    assert_eq!(build_all(&rows, 12, None, Start::Numerals(&[5])).built, refused(10));
+    assert_eq!(build_all(&rows, 8, None, Start::Numerals(&[5])).built, refused(11));
+    assert_eq!(build_all(&rows, 4, None, Start::Numerals(&[5])).built, refused(11));
+}
+
+#[test]
+fn ring_of_two_entered_at_a_start_row() {
+    let rows = [row(2, 1, 1), row(1, 2, 1)];
+    let image = build_all(&rows, 0, None, Start::Numerals(&[1]));
+    assert_eq!(
+        shape(&image),
+        [(1, 0, 1, false, false), (2, 1, 2, false, false), (1, 2, 3, true, false)]
+    );
+    // Both rows start: two trees.
+    assert_eq!(build_all(&rows, 0, None, Start::Numerals(&[1, 2])).built, accepted(6, 0));
+    // A depth that ends the path before it closes.
+    assert_eq!(build_all(&rows, 12, Some(1), Start::Numerals(&[1])).built, accepted(2, 0));
+    assert_eq!(build_all(&rows, 12, Some(2), Start::Numerals(&[1])).built, refused(10));
+}
+
+#[test]
+fn islands_end_no_node() {
+    // A ring of two, a row that hangs from it, a self ring.
+    let rows = [row(2, 1, 1), row(1, 2, 1), row(2, 3, 1), row(9, 9, 1)];
+    assert_eq!(build_all(&rows, 0, None, Start::ParentZero).built, accepted(0, 4));
+    assert_eq!(build_all(&rows, 1, None, Start::ParentZero).built, refused(12));
+    // No top orphan, so adopt needs no start row.
+    assert_eq!(build_all(&rows, 2, None, Start::ParentZero).built, accepted(0, 4));
+    assert_eq!(build_all(&rows, 3, None, Start::ParentZero).built, accepted(0, 4));
+}
+
+#[test]
+fn ring_reached_from_a_top_orphan_is_no_island() {
+    let rows = [row(7, 1, 1), row(1, 2, 1), row(2, 1, 1)];
+    let image = build_all(&rows, 3, None, Start::ParentZero);
+    assert_eq!(image.built, accepted(3, 0));
+    assert_eq!(
+        shape(&image),
+        [(1, 0, 1, false, true), (2, 1, 2, false, true), (3, 2, 3, true, true)]
+    );
+    assert_eq!(build_all(&rows, 15, None, Start::ParentZero).built, refused(10));
+}
+
+#[test]
+fn adopting_row_does_not_count_when_closing_is_judged() {
+    // Row 2 is a top orphan with the adopting row's numeral.
+    let rows = [row(0, 7, 1), row(99, 7, 1)];
+    for code in [2, 14] {
+        let image = build_all(&rows, code, None, Start::ParentZero);
+        assert_eq!(image.built, accepted(2, 0));
+        assert_eq!(shape(&image), [(1, 0, 1, false, false), (2, 1, 2, false, true)]);
+    }
+    assert_eq!(build_all(&rows, 10, None, Start::ParentZero).built, refused(11));
+    // Leaves only: the adopting node has size 2 and shares its numeral.
+    assert_eq!(build_all(&rows, 6, None, Start::ParentZero).built, refused(11));
+}
+
+#[test]
+fn adopted_ring_closes_on_its_own_rows() {
+    // 99 -> 3 -> 4 -> 3, adopted by the last start row in sibling order, row 1.
+    let rows = [row(0, 1, 5), row(0, 2, 4), row(99, 3, 0), row(3, 4, 0), row(4, 3, 0)];
+    let image = build_all(&rows, 2, None, Start::ParentZero);
+    assert_eq!(
+        shape(&image),
+        [
+            (2, 0, 1, false, false),
+            (1, 0, 1, false, false),
+            (3, 2, 2, false, true),
+            (4, 3, 3, false, true),
+            (5, 4, 4, true, true),
+        ]
+    );
+    assert_eq!(Body::read(&image.index, 2).size, 4);
+    assert_eq!(Body::read(&image.index, 5).root, 2);
+}
+
+#[test]
+fn children_of_a_reached_numeral_are_never_orphans() {
+    // Row 3's parent 5 is the numeral of an orphan (row 2) and of a reached row (row 1).
+    let rows = [row(0, 5, 1), row(99, 5, 1), row(5, 6, 1)];
+    let image = build_all(&rows, 3, None, Start::ParentZero);
+    assert_eq!(
+        shape(&image),
+        [(1, 0, 1, false, false), (3, 1, 2, false, false), (2, 0, 1, false, true)]
+    );
+}
+
+#[test]
+fn adopting_row_is_last_by_order_then_row_number() {
+    let rows = [row(0, 1, 9), row(0, 2, 9), row(0, 3, 8), row(50, 4, 0)];
+    let image = build_all(&rows, 2, None, Start::ParentZero);
+    assert_eq!(
+        shape(&image),
+        [
+            (3, 0, 1, false, false),
+            (1, 0, 1, false, false),
+            (2, 0, 1, false, false),
+            (4, 3, 2, false, true),
+        ]
+    );
+}
+
+#[test]
+fn start_lists() {
+    let rows = [row(0, 1, 1), row(1, 2, 1), row(2, 3, 1), row(1, 2, 0)];
+    // Empty: no path.
+    assert_eq!(build_all(&rows, 0, None, Start::Numerals(&[])).built, accepted(0, 4));
+    assert_eq!(build_all(&rows, 1, None, Start::Numerals(&[])).built, refused(12));
+    assert_eq!(build_all(&rows, 2, None, Start::Numerals(&[])).built, refused(8));
+    // Root: all from the top orphan, row 1.
+    assert_eq!(build_all(&rows, 3, None, Start::Numerals(&[])).built, accepted(5, 0));
+    // Foreign numerals and 0 start nothing.
+    assert_eq!(build_all(&rows, 0, None, Start::Numerals(&[0, 77])).built, accepted(0, 4));
+    assert_eq!(build_all(&rows, 2, None, Start::Numerals(&[0, 77])).built, refused(8));
+    // Both rows of numeral 2 start; doubles in the list change nothing; row 1 is left over.
+    let image = build_all(&rows, 0, None, Start::Numerals(&[2, 2, 77, 2]));
+    assert_eq!(image.built, accepted(4, 1));
+    assert_eq!(
+        shape(&image),
+        [
+            (4, 0, 1, false, false),
+            (3, 1, 2, false, false),
+            (2, 0, 1, false, false),
+            (3, 3, 2, false, false),
+        ]
+    );
+    // A start row reached below another start row stands at both places.
+    let image = build_all(&rows, 0, None, Start::Numerals(&[3, 1]));
+    assert_eq!(image.built, accepted(6, 0));
+    assert_eq!(Body::read(&image.index, 1).row, 1);
+    assert_eq!(Body::read(&image.index, 6).row, 3);
+}
+
+#[test]
+fn parent_zero_row_can_be_an_orphan() {
+    let rows = [row(0, 1, 1), row(1, 2, 1), row(2, 3, 1)];
+    let image = build_all(&rows, 3, None, Start::Numerals(&[2]));
+    assert_eq!(
+        shape(&image),
+        [(2, 0, 1, false, false), (3, 1, 2, false, false), (1, 0, 1, false, true)]
+    );
+}
+
+#[test]
+fn depths() {
+    let rows = [row(0, 1, 1), row(1, 2, 1), row(2, 3, 1)];
+    for (depth, nodes) in
+        [(i32::MIN, 0), (-2, 0), (-1, 0), (0, 1), (1, 2), (2, 3), (3, 3), (i32::MAX, 3)]
+    {
+        let image = build_all(&rows, 0, Some(depth), Start::ParentZero);
+        assert_eq!(image.built, accepted(nodes, 3 - nodes), "depth {depth}");
+    }
+    for code in 0..24 {
+        let image = build_all(&rows, code, Some(1), Start::ParentZero);
+        let expected = if code % 4 == 0 { accepted(2, 1) } else { refused(7) };
+        assert_eq!(image.built, expected, "code {code}");
+    }
+}
+
+#[test]
+fn refusals_in_order() {
+    let rows = [row(0, 1, 1), row(1, 1, 1), row(8, 9, 1)];
+    let none: &mut [u32] = &mut [];
+    let zero: &mut [i64] = &mut [];
+    let on = Start::ParentZero;
+    let off = Start::Numerals(&[]);
+    let mut index = [5; 8 + 6 * 3];
+    let mut totals = [5; 4];
+    assert_eq!(build(&rows, 24, Some(0), off, none, zero).refusal, 6);
+    assert_eq!(build(&rows, 2, Some(0), off, none, zero).refusal, 7);
+    assert_eq!(build(&rows, 2, None, off, none, zero).refusal, 8);
+    assert_eq!(build(&rows, 2, None, on, none, zero).refusal, 9);
+    assert_eq!(build(&rows, 21, None, on, &mut index[..19], &mut totals).refusal, 9);
+    assert_eq!(build(&rows, 21, None, on, &mut index[..20], &mut totals[..2]).refusal, 9);
+    assert_eq!(build(&rows, 21, None, on, &mut index[..20], &mut totals[..3]).refusal, 10);
+    assert_eq!(build(&rows, 9, None, on, &mut index, &mut totals).refusal, 11);
+    assert_eq!(build(&rows, 5, None, on, &mut index, &mut totals).refusal, 11);
+    assert_eq!(build(&rows, 1, None, on, &mut index, &mut totals).refusal, 12);
+    assert_eq!(index, [0; 26]);
+    assert_eq!(totals, [0; 4]);
+    assert_eq!(build(&rows, 3, None, on, &mut index, &mut totals).refusal, 0);
+}
+
+#[test]
+fn an_unsound_board_zeroes_the_slices() {
+    let mut board = Board::EMPTY;
+    board.count = 1;
+    let mut index = [5; 10];
+    let mut totals = [5; 3];
+    let built = build_board(&board, 24, None, Start::ParentZero, &mut index, &mut totals);
+    assert_eq!(built, refused(1));
+    assert_eq!((index, totals), ([0; 10], [0; 3]));
+}
+
+#[test]
+fn no_node_needs_eight_words_and_one_total() {
+    let mut index = [5; 8];
+    let mut totals = [5; 1];
+    let on = Start::ParentZero;
+    assert_eq!(build(&[], 0, None, on, &mut index[..7], &mut totals).refusal, 9);
+    assert_eq!(index, [0, 0, 0, 0, 0, 0, 0, 5]);
+    assert_eq!(totals, [0]);
+    assert_eq!(build(&[], 0, None, on, &mut index, &mut []).refusal, 9);
+    assert_eq!(build(&[], 0, None, on, &mut index, &mut totals).refusal, 0);
+    assert_eq!(index, [0, 8, 6, 0, 0, 0, 0, 0]);
+}
+
+/// 255 start rows of numeral 1 and 256 rows below it: 255 × 257 = 65,535 nodes.
+fn widest() -> Vec<Row> {
+    let mut rows = vec![Row::new(0, 1, 1, i32::MIN); 255];
+    rows.extend(vec![Row::new(1, 2, 1, i32::MIN); 256]);
+    rows
+}
+
+#[test]
+fn node_limit() {
+    let mut index = vec![3; 8 + 6 * 65_536];
+    let mut totals = vec![3; 65_537];
+    let built = build(&widest(), 0, None, Start::ParentZero, &mut index, &mut totals);
+    assert_eq!(built, accepted(65_535, 0));
+    assert!(index_check(&index));
+    assert_eq!(totals[65_535], -65_535 * (1 << 31));
+    assert_eq!(totals[65_536], 3);
+    assert_eq!(index[8 + 6 * 65_535..], [3; 6]);
+    assert_eq!(subtree_sum(&index, &totals, 65_279).sum, -257 * (1 << 31));
+    assert_eq!(path_sum(&index, &totals, 65_535), Summed { refusal: 0, sum: -2 * (1 << 31) });
+
+    let mut rows = widest();
+    rows.push(row(0, 3, 9));
+    let built = build(&rows, 0, None, Start::ParentZero, &mut index, &mut totals);
+    assert_eq!(built, refused(9));
+    // One more as an orphan counts only when it becomes a node.
+    rows[511] = row(77, 3, 9);
+    assert_eq!(build(&rows, 0, None, Start::ParentZero, &mut index, &mut totals).refusal, 0);
+    assert_eq!(build(&rows, 1, None, Start::ParentZero, &mut index, &mut totals).refusal, 12);
+    assert_eq!(build(&rows, 2, None, Start::ParentZero, &mut index, &mut totals).refusal, 9);
+    assert_eq!(build(&rows, 3, None, Start::ParentZero, &mut index, &mut totals).refusal, 9);
+}
+
+#[test]
+fn exponential_boards_stop() {
+    // Two rows on every level share a numeral: 2^512 paths.
+    let rows: Vec<Row> = (0..1_024).map(|k| row(k / 2, k / 2 + 1, k)).collect();
+    let mut index = vec![3; 8 + 6 * 65_536];
+    let mut totals = vec![3; 65_537];
+    let built = build(&rows, 0, None, Start::ParentZero, &mut index, &mut totals);
+    assert_eq!(built, refused(9));
+    // With a depth they are few.
+    let built = build(&rows, 0, Some(3), Start::ParentZero, &mut index, &mut totals);
+    assert_eq!(built, accepted(2 + 4 + 8 + 16, 1_016));
+}
+
+#[test]
+fn longest_chain() {
+    let rows: Vec<Row> = (0..1_024).map(|k| row(k, k + 1, 0)).collect();
+    let image = build_all(&rows, 23, None, Start::ParentZero);
+    assert_eq!(image.built, accepted(1_024, 0));
+    let mut list = vec![0; 1_024];
+    let climbed = ancestors(&image.index, 1_024, i32::MIN, i32::MAX, &mut list);
+    assert_eq!(climbed, Climbed { refusal: 0, length: 1_024, links: 1_023 });
+    assert_eq!(path_sum(&image.index, &image.totals, 1_024).sum, 1_024);
+
+    // Closed by a ring entered at the start row: 1,025 rows.
+    let mut ring = rows.clone();
+    ring[0].parent = 1_024;
+    let image = build_all(&ring, 0, None, Start::Numerals(&[1]));
+    assert_eq!(image.built, accepted(1_025, 0));
+    let last = Body::read(&image.index, 1_025);
+    assert!(last.closing && last.level == 1_025 && last.row == 1);
+}
+
+#[test]
+fn order_extremes_and_ties() {
+    let rows = [row(0, 4, u32::MAX), row(0, 3, 0), row(0, 2, u32::MAX), row(0, 1, 0)];
+    let image = build_all(&rows, 0, None, Start::ParentZero);
+    let order: Vec<u32> = shape(&image).iter().map(|node| node.0).collect();
+    assert_eq!(order, [2, 4, 1, 3]);
+}
+
+// Soundness.
+
+fn board_of(rows: &[Row], entries: &[Entry]) -> Board {
+    let mut board = Board::EMPTY;
+    board.count = rows.len();
+    board.rows[..rows.len()].copy_from_slice(rows);
+    board.kept = entries.len();
+    board.journal[..entries.len()].copy_from_slice(entries);
+    board
+}
+
+fn entry(kind: u32, at: usize, numeral: u32) -> Entry {
+    Entry { kind, at, row: row(0, numeral, 0) }
+}
+
+#[test]
+fn soundness() {
+    let two = [row(0, 1, 1), row(0, 2, 2)];
+    let full = vec![row(0, 1, 1); 1_024];
+    let sound = |rows: &[Row], newest: Entry| board_of(rows, &[newest]).sound();
+    assert!(Board::EMPTY.sound());
+    assert!(!board_of(&[row(0, 0, 1)], &[]).sound());
+    // An add: a row must be there; place and row of the entry are not used.
+    assert!(!sound(&[], entry(0, 0, 1)));
+    assert!(sound(&two, entry(0, usize::MAX, 0)));
+    assert!(sound(&full, entry(0, 0, 0)));
+    // A withdrawal: place up to the count, room for one more, numeral 1 or more.
+    assert!(sound(&[], entry(1, 0, 1)));
+    assert!(!sound(&[], entry(1, 1, 1)));
+    assert!(sound(&two, entry(1, 2, 1)));
+    assert!(!sound(&two, entry(1, 3, 1)));
+    assert!(!sound(&two, entry(1, usize::MAX, 1)));
+    assert!(!sound(&two, entry(1, 0, 0)));
+    assert!(!sound(&full, entry(1, 0, 1)));
+    assert!(sound(&full[..1_023], entry(1, 1_023, 1)));
+    // A remark: place below the count, numeral 1 or more.
+    assert!(sound(&two, entry(2, 1, 1)));
+    assert!(!sound(&two, entry(2, 2, 1)));
+    assert!(!sound(&[], entry(2, 0, 1)));
+    assert!(!sound(&two, entry(2, 0, 0)));
+    assert!(sound(&full, entry(2, 1_023, 7)));
+    // Other kinds can't be undone.
+    assert!(!sound(&two, entry(3, 0, 1)));
+    assert!(!sound(&two, entry(u32::MAX, 0, 1)));
+    // Only the newest entry is looked at.
+    assert!(board_of(&two, &[entry(9, 0, 0), entry(0, 0, 0)]).sound());
+    let mut board = board_of(&two, &[entry(9, 0, 0)]);
+    board.kept = 0;
+    board.rows[2].numeral = 0;
+    assert!(board.sound());
+    // Numbers beyond the places.
+    for (count, kept) in [(1_025, 0), (usize::MAX, 0), (0, 257), (0, usize::MAX)] {
+        let mut board = Board::EMPTY;
+        board.count = count;
+        board.kept = kept;
+        board.rows = [row(0, 1, 1); 1_024];
+        board.journal = [entry(1, 0, 1); 256];
+        assert!(!board.sound());
+        for call in [Call::Add(row(0, 0, 0)), Call::Withdraw(0), Call::Remark(0, 1), Call::Undo] {
+            let edited = board.clone().call(call);
+            assert_eq!(edited.refusal, 1);
+            assert_eq!(edited.board, board);
+        }
+    }
+}
+
+#[test]
+fn undo_of_a_foreign_board_may_leave_it_unsound() {
+    let board = board_of(&[row(0, 1, 1)], &[entry(7, 0, 0), entry(0, 0, 0)]);
+    let edited = board.undo();
+    assert_eq!((edited.refusal, edited.board.count, edited.board.kept), (0, 0, 1));
+    assert_eq!(edited.board.undo().refusal, 1);
+}
+
+#[test]
+fn edits_refuse_in_order() {
+    let full = board_of(&vec![row(0, 1, 1); 1_024], &[]);
+    assert_eq!(full.clone().add(row(0, 0, 0)).refusal, 2);
+    assert_eq!(full.clone().add(row(0, 1, 0)).refusal, 3);
+    assert_eq!(full.clone().withdraw(0).refusal, 4);
+    assert_eq!(full.clone().withdraw(1_025).refusal, 4);
+    assert_eq!(full.clone().remark(0, 0).refusal, 4);
+    assert_eq!(full.clone().remark(usize::MAX, 0).refusal, 4);
+    assert_eq!(full.clone().undo().refusal, 5);
+    assert_eq!(full.clone().withdraw(1_024).refusal, 0);
+    assert_eq!(full.clone().remark(1_024, i32::MIN).board.rows[1_023].minutes, i32::MIN);
+}
+
+#[test]
+fn the_oldest_of_257_entries_is_dropped() {
+    let mut entries: Vec<Entry> = (0..256).map(|k| entry(2, 0, k + 1)).collect();
+    let board = board_of(&[row(0, 1, 1)], &entries);
+    let edited = board.remark(1, 9);
+    assert_eq!(edited.refusal, 0);
+    entries.remove(0);
+    entries.push(Entry { kind: 2, at: 0, row: row(0, 1, 1) });
+    assert!(edited.board.entries() == entries);
+}
+
+// Navigation on foreign slices.
+
+/// An index of the given bodies: size, parent, level; check word right.
+fn index_of(bodies: &[(u32, u32, u32)]) -> Vec<u32> {
+    let mut index = vec![bodies.len() as u32, 8, 6, 0, 0, 0, 0, 0];
+    let mut roots = vec![0];
+    for (place, &(size, parent, level)) in bodies.iter().enumerate() {
+        let rank = place as u32 + 1;
+        let root = if parent == 0 { rank } else { *roots.get(parent as usize).unwrap_or(&0) };
+        roots.push(root);
+        index.extend([7, 7, size, parent, root, level]);
+    }
+    seal(&mut index);
+    index
+}
+
+fn seal(index: &mut [u32]) {
+    let end = 8 + 6 * index[0] as usize;
+    index[3] = index[8..end].iter().fold(0, |sum: u32, word| sum.wrapping_add(*word));
+}
+
+fn all_calls(index: &[u32], totals: &[i64], rank: u32) -> [u32; 6] {
+    let mut list = [0; 16];
+    [
+        span(index, rank).refusal,
+        descendants(index, rank, i32::MIN, i32::MAX, &mut list).refusal,
+        ancestors(index, rank, i32::MIN, i32::MAX, &mut list).refusal,
+        siblings(index, rank, &mut list).refusal,
+        subtree_sum(index, totals, rank).refusal,
+        path_sum(index, totals, rank).refusal,
+    ]
+}
+
+#[test]
+fn headers() {
+    let good = index_of(&[(2, 0, 1), (1, 1, 2)]);
+    assert_eq!(all_calls(&good, &[0, 1, 2], 1), [0; 6]);
+    assert!(index_check(&good));
+    // A sum gets under n + 1 totals; the rank comes later.
+    assert_eq!(all_calls(&good, &[0, 1], 1), [0, 0, 0, 0, 13, 13]);
+    assert_eq!(all_calls(&good, &[0, 1], 0), [14, 14, 14, 14, 13, 13]);
+    assert_eq!(all_calls(&good, &[], 3), [14, 14, 14, 14, 13, 13]);
+    assert_eq!(all_calls(&good, &[0, 1, 2], 3), [14; 6]);
+    assert_eq!(all_calls(&good, &[0, 1, 2], u32::MAX), [14; 6]);
+    for end in 0..good.len() {
+        assert_eq!(all_calls(&good[..end], &[0, 1, 2], 1), [13; 6]);
+        assert!(!index_check(&good[..end]));
+    }
+    for (word, value) in [(1, 7), (2, 5), (0, 3), (0, 65_536), (0, u32::MAX)] {
+        let mut bad = good.clone();
+        bad[word] = value;
+        assert_eq!(all_calls(&bad, &[0, 1, 2], 1), [13; 6]);
+        assert!(!index_check(&bad));
+    }
+    // Words 3 to 7 don't matter to navigation.
+    for word in 3..8 {
+        let mut bad = good.clone();
+        bad[word] += 1;
+        assert_eq!(all_calls(&bad, &[0, 1, 2], 1), [0; 6]);
+        assert!(!index_check(&bad));
+    }
+    // Words beyond don't matter at all.
+    let mut longer = good.clone();
+    longer.extend([9; 11]);
+    assert_eq!(all_calls(&longer, &[0, 1, 2, 3], 1), [0; 6]);
+    assert!(index_check(&longer));
+    // An index of 65,536 nodes that would fit.
+    let mut large = vec![0; 8 + 6 * 65_536];
+    large[0] = 65_536;
+    large[1] = 8;
+    large[2] = 6;
+    assert_eq!(all_calls(&large, &vec![0; 65_537], 1), [13; 6]);
+}
+
+#[test]
+fn sizes_and_parents_of_foreign_indexes() {
+    let totals = [0, 0, 0, 0];
+    // Size 0, or an end above n, up to the widest word.
+    for size in [0, 3, u32::MAX - 1, u32::MAX] {
+        let index = index_of(&[(3, 0, 1), (size, 1, 2), (1, 1, 2)]);
+        assert_eq!(all_calls(&index, &totals, 2), [15, 15, 0, 0, 15, 0]);
+        assert_eq!(all_calls(&index, &totals, 1), [0; 6]);
+        assert!(!index_check(&index));
+    }
+    // A parent rank not below its own, met anywhere on the climb.
+    for parent in [2, 3, 4, u32::MAX] {
+        let index = index_of(&[(3, 0, 1), (1, parent, 2), (1, 2, 3)]);
+        assert_eq!(all_calls(&index, &totals, 2), [0, 0, 15, 0, 0, 15]);
+        assert_eq!(all_calls(&index, &totals, 3), [0, 0, 15, 0, 0, 15]);
+        assert_eq!(all_calls(&index, &totals, 1), [0; 6]);
+    }
+    // Refused although the limits would give an empty list.
+    let index = index_of(&[(0, 1, 1)]);
+    let mut list = [9; 2];
+    assert_eq!(descendants(&index, 1, 1, 0, &mut list).refusal, 15);
+    assert_eq!(ancestors(&index, 1, 1, 0, &mut list).refusal, 15);
+    assert_eq!(list, [9; 2]);
+}
+
+#[test]
+fn distances_of_foreign_levels() {
+    // Levels falling below the node, and bits 16 to 31 set.
+    let index = index_of(&[(3, 0, 5), (1, 1, 0xffff), (1, 1, 0xffff_0000)]);
+    let mut list = [0; 3];
+    assert_eq!(descendants(&index, 1, i32::MIN, -5, &mut list).length, 1);
+    assert_eq!(list[0], 3);
+    assert_eq!(descendants(&index, 1, 65_530, i32::MAX, &mut list).length, 1);
+    assert_eq!(list[0], 2);
+    assert_eq!(descendants(&index, 1, -5, -5, &mut list).length, 1);
+    // The climb lists a distance above 0 as well.
+    assert_eq!(ancestors(&index, 3, 5, 5, &mut list), Climbed { refusal: 0, length: 1, links: 1 });
+    assert_eq!(list[0], 1);
+    assert_eq!(
+        ancestors(&index, 3, -5, -1, &mut list),
+        Climbed { refusal: 0, length: 0, links: 1 }
+    );
+    // A lower limit above the upper.
+    assert_eq!(
+        descendants(&index, 1, i32::MAX, i32::MIN, &mut []),
+        Listed { refusal: 0, length: 0 }
+    );
+}
+
+#[test]
+fn lists_and_their_slices() {
+    let index = index_of(&[(3, 0, 1), (1, 1, 2), (1, 1, 2), (1, 0, 1)]);
+    let mut list = [9; 3];
+    assert_eq!(descendants(&index, 1, 0, 1, &mut list[..2]), Listed { refusal: 16, length: 0 });
+    assert_eq!(
+        ancestors(&index, 3, -1, 0, &mut list[..1]),
+        Climbed { refusal: 16, length: 0, links: 0 }
+    );
+    assert_eq!(siblings(&index, 4, &mut list[..1]), Listed { refusal: 16, length: 0 });
+    assert_eq!(list, [9; 3]);
+    assert_eq!(
+        ancestors(&index, 3, -1, -1, &mut list[..1]),
+        Climbed { refusal: 0, length: 1, links: 1 }
+    );
+    assert_eq!(list, [1, 9, 9]);
+    assert_eq!(siblings(&index, 4, &mut list), Listed { refusal: 0, length: 2 });
+    assert_eq!(list, [1, 4, 9]);
+    assert_eq!(span(&index, 1), Spanned { refusal: 0, words: 8..26 });
+    assert_eq!(span(&index, 3), Spanned { refusal: 0, words: 20..26 });
+    assert_eq!(span(&index, 5), Spanned { refusal: 14, words: 0..0 });
+}
+
+#[test]
+fn totals_at_any_value() {
+    let index = index_of(&[(2, 0, 1), (1, 1, 2)]);
+    let edge = 1i64 << 47;
+    let sum = |totals: [i64; 3]| subtree_sum(&index, &totals, 1);
+    assert_eq!(sum([-edge, i64::MAX, edge]), Summed { refusal: 0, sum: 2 * edge });
+    assert_eq!(sum([edge, i64::MIN, -edge]), Summed { refusal: 0, sum: -2 * edge });
+    for bad in [edge + 1, -edge - 1, i64::MIN, i64::MAX] {
+        assert_eq!(sum([bad, 0, 0]), Summed { refusal: 15, sum: 0 });
+        assert_eq!(sum([0, 0, bad]), Summed { refusal: 15, sum: 0 });
+        assert_eq!(sum([0, bad, 0]).refusal, 0);
+        for place in 0..3 {
+            let mut totals = [0; 3];
+            totals[place] = bad;
+            assert_eq!(path_sum(&index, &totals, 2), Summed { refusal: 15, sum: 0 });
+        }
+        // The total at rank 2 isn't used on the path of rank 1.
+        assert_eq!(path_sum(&index, &[0, 0, bad], 1).refusal, 0);
+    }
+    let path = |totals: [i64; 3]| path_sum(&index, &totals, 2);
+    let (low, high) = (i32::MIN as i64, i32::MAX as i64);
+    assert_eq!(path([edge - high, edge, edge + low]), Summed { refusal: 0, sum: -1 });
+    assert_eq!(path([0, high + 1, 0]).refusal, 15);
+    assert_eq!(path([0, low - 1, 0]).refusal, 15);
+    assert_eq!(path([-edge, edge, edge]).refusal, 15);
+    // A subtree sum may leave i32.
+    assert_eq!(sum([0, 0, high + 1]).sum, high + 1);
+}
+
+// Index check.
+
+#[test]
+fn check_of_each_condition() {
+    // 1 (2 3 (4)) 5
+    let good = index_of(&[(4, 0, 1), (1, 1, 2), (2, 1, 2), (1, 3, 3), (1, 0, 1)]);
+    assert!(index_check(&good));
+    let damaged = |rank: usize, word: usize, value: u32| {
+        let mut index = good.clone();
+        index[8 + 6 * (rank - 1) + word] = value;
+        assert!(!index_check(&index), "check word wrong");
+        seal(&mut index);
+        index_check(&index)
+    };
+    // Numeral, row number and the two flags are free.
+    assert!(damaged(1, 0, 0));
+    assert!(damaged(2, 1, u32::MAX));
+    assert!(damaged(2, 5, 2 + (3 << 30)));
+    // Size 0; an end beyond the parent's or n; a size that swallows the next tree.
+    assert!(!damaged(2, 2, 0));
+    assert!(!damaged(4, 2, 2));
+    assert!(!damaged(5, 2, 2));
+    assert!(!damaged(5, 2, u32::MAX));
+    assert!(!damaged(1, 2, 5));
+    // Parent ranks.
+    assert!(!damaged(4, 3, 1));
+    assert!(!damaged(5, 3, 1));
+    assert!(!damaged(5, 3, 5));
+    assert!(!damaged(2, 3, u32::MAX));
+    // Levels, roots, bits 16 to 29.
+    assert!(!damaged(1, 5, 0));
+    assert!(!damaged(4, 5, 4));
+    assert!(!damaged(4, 4, 3));
+    assert!(!damaged(5, 4, 1));
+    for bit in 16..30 {
+        assert!(!damaged(3, 5, 2 + (1 << bit)));
+    }
+}
+
+#[test]
+fn check_of_the_deepest_chain() {
+    let n = 65_535;
+    let mut bodies: Vec<(u32, u32, u32)> = (1..=n).map(|k| (n + 1 - k, k - 1, k)).collect();
+    assert!(index_check(&index_of(&bodies)));
+    bodies[65_534].2 = 0;
+    assert!(!index_check(&index_of(&bodies)));
+}
+
+// The listing program.
+
+fn prints(input: &str, output: &str) {
+    assert_eq!(String::from_utf8(numerals(input.as_bytes())).unwrap(), output, "{input:?}");
+}
+
+#[test]
+fn lines_it_cannot_read() {
+    for bad in [
+        "",
+        " ",
+        "1",
+        "0 1 1",
+        "0 1 1 1 1",
+        "0  1 1 1",
+        " 0 1 1 1",
+        "0 1 1 1 ",
+        "0 1 1 -",
+        "0 1 1 --1",
+        "0 1 1 +1",
+        "-0 1 1 1",
+        "0 -1 1 1",
+        "0 1 -1 1",
+        "0 1 1 1-",
+        "0 1 1 1\r",
+        "0\t1 1 1",
+        "a 1 1 1",
+        "0 1 1 1.0",
+        "4294967296 1 1 1",
+        "0 4294967296 1 1",
+        "0 1 4294967296 1",
+        "0 1 1 2147483648",
+        "0 1 1 -2147483649",
+        "0 1 1 99999999999999999999999999999999999999999",
+        "340282366920938463463374607431768211456 1 1 1",
+        "0 1 1 \u{0661}",
+    ] {
+        prints(&format!("{bad}\n"), "bad line 1\n");
+        prints(&format!("0 1 1 1\n{bad}\n0 1 1 1"), "bad line 2\n");
+    }
+    prints("0 1 1 1\n\n", "bad line 2\n");
+    prints("\n", "bad line 1\n");
+    assert_eq!(numerals(b"0 1 1 \xff"), b"bad line 1\n");
+    assert_eq!(numerals(b"0 1 1 1\0"), b"bad line 1\n");
+}
+
+#[test]
+fn fields_at_their_widths() {
+    let header = "rank size parent level root cycle orphan id sum\n";
+    let body = |text: &str| format!("{header}{text}");
+    prints("0 4294967295 4294967295 -2147483648", &body("1 1 0 1 1 0 0 4294967295 -2147483648\n"));
+    prints("4294967295 7 0 2147483647", &body("1 1 0 1 1 0 1 7 2147483647\n"));
+    prints("00 0007 000 -0", &body("1 1 0 1 1 0 0 7 0\n"));
+    let zeros = "0".repeat(500);
+    prints(&format!("0 {zeros}7 0 -{zeros}9\n"), &body("1 1 0 1 1 0 0 7 -9\n"));
+}
+
+#[test]
+fn the_first_is_all_that_is_printed() {
+    prints("0 0 1 1\nbad\n", "refused 2\n");
+    prints("bad\n0 0 1 1\n", "bad line 1\n");
+    let full = "0 1 1 1\n".repeat(1_024);
+    prints(&format!("{full}0 1 1 1\n"), "refused 3\n");
+    prints(&format!("{full}0 0 1 1\n"), "refused 2\n");
+    prints(&format!("{full}0 1 1\n"), "bad line 1025\n");
+    prints(&format!("{full}0 1 1 1\nbad\n"), "refused 3\n");
+}
+
+#[test]
+fn its_index_holds_2_700_nodes() {
+    // 50 start rows of one numeral, each with 53 rows below: 50 × 54 = 2,700.
+    let text = "0 1 1 1\n".repeat(50) + &"1 2 1 1\n".repeat(53);
+    let output = String::from_utf8(numerals(text.as_bytes())).unwrap();
+    assert_eq!(output.lines().count(), 2_701);
+    assert_eq!(output.lines().last(), Some("2700 1 2647 2 2647 0 0 2 1"));
+    prints(&format!("{text}0 3 1 1\n"), "refused 9\n");
+    prints(&format!("{text}8 3 1 1\n"), "refused 9\n");
+    prints(&format!("{text}3 3 1 1\n"), &output);
+}

@@ -1,0 +1,34 @@
+#!/bin/sh
+# Every test that is no proof: the library from Rust and from C against the reference and the guide's tables, and the layouts of the structs.
+# Needs the kit, a C compiler and cargo, and no network. Ends with `tests: all passed`, or fails at the first that doesn't.
+set -eu
+cd "$(dirname "$0")/.."
+export CARGO_TARGET_DIR="$PWD/target/cargo"
+out=target/tests
+library=target/staticlib/libexports.a
+rt staticlib exports
+mkdir -p "$out"
+
+cargo test --offline --release --manifest-path rust/Cargo.toml
+
+# compile NAME SOURCE: a C program against the header and the library
+compile() {
+    "${CC:-cc}" -std=c11 -O2 -Wall -Wextra -Werror -pedantic -I include -o "$out/$1" "$2" "$library"
+}
+
+# same WHAT A B: fails loudly where two files differ
+same() {
+    if ! cmp -s "$2" "$3"; then
+        echo "tests: $1 differ:" >&2
+        diff "$2" "$3" >&2 || true
+        exit 1
+    fi
+    echo "tests: $1 agree"
+}
+
+compile layout tests/layout.c
+"$out/layout" >"$out/layout.c.out"
+cargo run --offline --release --quiet --manifest-path rust/Cargo.toml --bin layout >"$out/layout.rust.out"
+same "layouts in C and Rust" "$out/layout.c.out" "$out/layout.rust.out"
+
+echo "tests: all passed"
