@@ -1,0 +1,78 @@
+-- What is left to do once the bodies of all nodes stand in the index: refusals 10 to 12, the rows left over, the running totals. Assumes nothing: these are definitions.
+use mathlib.Core.Path.{_≡_}
+use mathlib.Core.Logic.{_↔_}
+use mathlib.Core.Bool.{Bool, cond, not, _&&_}
+use mathlib.Core.List.{List, map}
+use Prim.Native.Nat.{ℕ, _+_, _*_, _≤_, _<_}
+use lib.Dec.{eqb}
+use lib.IntN.{ℤ, pos}
+use lib.ListN.{length, getD, replicate}
+use lib.Seq.{sets}
+use Rattle.lists.specs.Members.{_∈_, filter, numbers, totalsFrom}
+use Rattle.lists.specs.Stores.{front}
+use Rattle.board.specs.declared.Row.{Row}
+use Rattle.image.specs.declared.Body.{Body}
+use Rattle.image.specs.Layout.{flat, checked, imageWords}
+use Rattle.options.specs.declared.Choice.{Choice}
+use Rattle.paths.specs.Forest.{memb}
+use Rattle.paths.specs.Rows.{row as boardRow, num, RowOf}
+use Rattle.paths.specs.Nodes.{sorted}
+use Rattle.paths.specs.Refusals.{refusal10, refusal11}
+use Rattle.request.specs.declared.Built.{Built}
+use Rattle.walk.specs.declared.Met.{Met}
+
+-- the bodies bs of nodes over the rows R stand in the index from word 8 on, over what it held before
+pub record Written (R : List Row) (bs : List Body) (before index : List ℕ) (met : Met) : Type 0 where
+  pub count-is : met .count ≡ length bs
+  pub check-is : met .check ≡ checked 0 (flat bs)
+  pub few : length bs ≤ 65535
+  pub room : 8 + 6 * length bs ≤ length before
+  pub written : index ≡ sets before 8 (flat bs)
+  pub row-of : (b : Body) → b ∈ bs → RowOf R (b .row)
+  pub numeral-of : (b : Body) → b ∈ bs → b .numeral ≡ num R (b .row)
+
+-- the row numbers of R in sibling order, and a class for each place: equal for equal numerals only
+pub record Classes (R : List Row) (row class : List ℕ) : Type 0 where
+  pub row-is : row ≡ sorted R
+  pub row-long : length row ≡ length R
+  pub few : length R ≤ 1024
+  pub class-long : length class ≡ length row
+  pub below : (p : ℕ) → p < length row → getD class p 0 < length row
+  pub same : (p q : ℕ) → p < length row → q < length row → (getD class p 0 ≡ getD class q 0) ↔ (num R (getD row p 0) ≡ num R (getD row q 0))
+
+-- some rows have them
+pub record AnyNodes (row class : List ℕ) (minutes : List ℤ) (index : List ℕ) (met : Met) : Type 0 where
+  pub R : List Row
+  pub bs : List Body
+  pub before : List ℕ
+  pub written : Written R bs before index met
+  pub classes : Classes R row class
+  pub minutes-are : minutes ≡ map (λ (r : Row). r .minutes) R
+
+-- "the number of rows that end no node"
+abbrev pub leftOver : List Row → List Body → ℕ
+leftOver R bs = length (filter (λ x. not (memb x (map (λ (b : Body). b .row) bs))) (numbers 1 (length R)))
+
+-- the first of 10 to 12 that applies, where under error the rows of U are those that end no node; 0 for none
+unfoldable pub lateRefusal : List Row → Choice → List Body → ℕ
+lateRefusal R choice bs =
+    cond (refusal10 (choice .cycle) bs) 10
+    (cond (refusal11 (choice .multi) bs) 11 (cond (eqb (choice .orphan) 1 && not (eqb (leftOver R bs) 0)) 12 0))
+
+unfoldable pub lateAnswer : List Row → Choice → List Body → Built
+lateAnswer R choice bs =
+    record {
+      refusal = lateRefusal R choice bs;
+      nodes = cond (eqb (lateRefusal R choice bs) 0) (length bs) 0;
+      left = cond (eqb (lateRefusal R choice bs) 0) (leftOver R bs) 0;
+    }
+
+-- the minutes of a body's row
+abbrev pub bodyMinutes : List Row → Body → ℤ
+bodyMinutes R b = boardRow R (b .row) .minutes
+
+-- the answer; where nothing is refused, the image and the running totals at the front of the slices
+pub record Finished (R : List Row) (choice : Choice) (bs : List Body) (before index′ : List ℕ) (totals totals′ : List ℤ) (r : Built) : Type 0 where
+  pub answer : r ≡ lateAnswer R choice bs
+  pub index-is : lateRefusal R choice bs ≡ 0 → index′ ≡ front (imageWords bs) before
+  pub totals-are : lateRefusal R choice bs ≡ 0 → totals′ ≡ front (totalsFrom (bodyMinutes R) (pos 0) bs) totals

@@ -1,0 +1,51 @@
+// What is left to do once the bodies of all nodes stand in the index: the table of contents, refusals 10 to 12, the rows left over, the running totals.
+ghost use mathlib.Core.Path.{_≡_};
+ghost use mathlib.Core.List.{List, map};
+ghost use Prim.Native.Nat.{ℕ, _+_, _*_, _≤_, _<_};
+ghost use lib.ListN.{length, replicate};
+ghost use Rattle.board.specs.declared.Row.{Row};
+ghost use Rattle.image.specs.declared.Body.{Body};
+ghost use Rattle.finish.specs.Finish.{Written, Classes, AnyNodes, Finished};
+use options::Choice;
+use request::Built;
+use walk::Met;
+
+// Finishes a build whose bodies are written. Where it is refused, the index and the totals may hold anything.
+pub fn finish(
+    choice: Choice,
+    met: Met,
+    row: &[u32],
+    class: &[u32],
+    minutes: &[i32],
+    reached: &mut [u32],
+    kinds: &mut [u32],
+    counts: &mut [u32],
+    index: &mut [u32],
+    totals: &mut [i64],
+) -> Built
+    requires { ⌜ AnyNodes (now row) (now class) (now minutes) (now index) met ⌝ }
+    requires { ⌜ (now reached ≡ replicate (length (now row)) 0) × (length (now kinds) ≡ length (now row)) × (now counts ≡ replicate (length (now row)) 0) × (met .count < length (now totals)) ⌝ }
+    ensures { λ r. ⌜ ((R : List Row) (bs : List Body) (before : List ℕ) → Written R bs before (now (index .entry)) met → Classes R (now (row .entry)) (now (class .entry)) → now (minutes .entry) ≡ map (λ (r : Row). r .minutes) R → Finished R choice bs before (now (index .exit)) (now (totals .entry)) (now (totals .exit)) r) ⌝ }
+{
+    let n = met.count as usize;
+    image::write_contents(index, met.count, met.check);
+    if is_closed(choice.cycle, index, n) {
+        return request::refused(10);
+    }
+    if is_shared(choice.multi, index, n, row, class, kinds, counts) {
+        return request::refused(11);
+    }
+    passes::mark_rows(index, n, reached);
+    let left = passes::count_clear(reached) as u32;
+    if choice.orphan == 1 {
+        if left != 0 {
+            return request::refused(12);
+        }
+    }
+    passes::fill_totals(index, n, minutes, totals);
+    Built {
+        refusal: 0,
+        nodes: met.count,
+        left: left,
+    }
+}
