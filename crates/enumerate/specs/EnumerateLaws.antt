@@ -119,7 +119,7 @@ last-le flags = below (length flags) (omega arith)
         step true r = omega arith
         step false r = r
 
-one-flagged : (flags : List ℕ) (n : ℕ) → n ≡ length flags → lastFlag flags < n → flagged flags (lastFlag flags) n ≡ lastFlag flags ∷ []
+pub one-flagged : (flags : List ℕ) (n : ℕ) → n ≡ length flags → lastFlag flags < n → flagged flags (lastFlag flags) n ≡ lastFlag flags ∷ []
 unfolding flagged lastFlag
 one-flagged flags n e h =
     let p : ℕ = lastBelow flags (length flags) in
@@ -130,7 +130,7 @@ one-flagged flags n e h =
     ∙ ap (λ (b : Bool). keep b p (filter f (numbers (suc p) (n - p - 1)))) (eq-eqb (getD flags p 0) 1 (r .1))
     ∙ ap (λ (l : List ℕ). p ∷ l) (filter-none f (numbers (suc p) (n - p - 1)) (λ y m t. let b = numbers-out (suc p) (n - p - 1) y m in r .2 y (omega (arith, b)) (omega (arith, b)) (eqb→eq (getD flags y 0) 1 t)))
 
-none-flagged : (flags : List ℕ) (n : ℕ) → n ≡ length flags → n ≤ lastFlag flags → flagged flags 0 n ≡ []
+pub none-flagged : (flags : List ℕ) (n : ℕ) → n ≡ length flags → n ≤ lastFlag flags → flagged flags 0 n ≡ []
 unfolding flagged lastFlag
 none-flagged flags n e h =
     let f : ℕ → Bool = λ (q : ℕ). eqb (getD flags q 0) 1 in
@@ -223,13 +223,13 @@ module _ (R : List Row) (start : Row → Bool) (depth : Depth) (row parent numer
   abbrev pub regular-bodies : List Body
   regular-bodies = E (starts R start) 1
 
-  flags-long : length flags ≡ length row
+  pub flags-long : length flags ≡ length row
   flags-long = ap length flags-are ∙ length-map row (λ x. flagOf (start (boardRow R x)))
 
-  child-count : length child ≡ length row
+  pub child-count : length child ≡ length row
   child-count = child-long R row parent numeral (ready .ordered) parent child next′ (parent-long R row parent numeral (ready .ordered)) (ready .child-is) (ready .next-is)
 
-  all-starts : map (rowOf W) (flagged flags 0 (length child)) ≡ starts R start
+  pub all-starts : map (rowOf W) (flagged flags 0 (length child)) ≡ starts R start
   unfolding flagged starts
   all-starts =
       let z : length child - 0 ≡ length row = omega (arith, child-count) in

@@ -96,6 +96,15 @@ module _ (R : List Row) (row parent numeral child next class owner keys : List �
             ∙ ap (λ (b : Bool). cond (not (memb (getD row q 0) ends) && (eqb (par R (getD row q 0)) 0 || b)) 1 0) (owner-test R row parent numeral (ready .ordered) owner (ready .owner-is) q h)
             ∙ sym (getD-mapped (λ x. flagOf (top-test x)) row q 0 0 h)
 
+    pub tops-rows : (t : List ℕ) → t ≡ topFlags row (reachedFlags ends (length row)) parent owner → map (λ q. getD row q 0) (flagged t 0 (length row)) ≡ topsAmong R ends
+    unfolding flagged top-test
+    tops-rows t e =
+        let z : length row - 0 ≡ length row = omega arith in
+        ap (λ (j : ℕ). map (λ q. getD row q 0) (filter (λ q. eqb (getD t q 0) 1) (numbers 0 j))) z
+        ∙ flagged-rows top-test row t 0 (length row) (tops-are t e) (omega arith)
+        ∙ ap (filter top-test) (take-length row ∙ ready .ordered .rows-are)
+        ∙ filter-both (λ x. not (memb x ends)) (λ x. noParent R (par R x)) (sorted R)
+
     module _ (m t child₂ next₂ : List ℕ) (linked : OrphansLinked (reachedFlags ends (length row)) row parent numeral owner m t child₂ next₂) where
       W : Rows
       W = record { child = child₂; next = next₂; cls = class; numeral = numeral; row = row }
@@ -110,13 +119,8 @@ module _ (R : List Row) (row parent numeral child next class owner keys : List �
           (λ p h. ready .numbered (getD row p 0) (row-named p h)) (masked m (linked .masked-is)) (linked .child-is) (linked .next-is)
 
       tops-flagged : map (rowOf W) (flagged t 0 (length row)) ≡ topsAmong R ends
-      unfolding W flagged top-test
-      tops-flagged =
-          let z : length row - 0 ≡ length row = omega arith in
-          ap (λ (j : ℕ). map (λ q. getD row q 0) (filter (λ q. eqb (getD t q 0) 1) (numbers 0 j))) z
-          ∙ flagged-rows top-test row t 0 (length row) (tops-are t (linked .tops-are)) (omega arith)
-          ∙ ap (filter top-test) (take-length row ∙ ready .ordered .rows-are)
-          ∙ filter-both (λ x. not (memb x ends)) (λ x. noParent R (par R x)) (sorted R)
+      unfolding W
+      tops-flagged = tops-rows t (linked .tops-are)
 
       -- the walk of the flagged tops is the walk of the orphan paths
       pub orphans-walked : (rank count cap check level limit n : ℕ) (on on′ ix ix′ : List ℕ) (r : Met) → level ≡ orphanLevel rank → limit ≡ length row + level → n ≡ length row → Clear on

@@ -26,6 +26,10 @@ abbrev pub startRule : Start → List ℕ → Row → Bool
 startRule ParentZero list = parentZero
 startRule Listed list = numeralIn list
 
+-- the answer of a build that is refused by a number
+abbrev pub refusedBy : ℕ → Built
+refusedBy number = record { refusal = number; nodes = 0; left = 0 }
+
 module _ (b : Board) (code : ℕ) (depth : Depth) (start : Row → Bool) (words totals : ℕ) where
   -- "1. The board isn't sound.", then the first of 6 to 12 that applies; 0 for none
   unfoldable pub buildRefusal : ℕ

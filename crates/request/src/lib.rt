@@ -1,4 +1,6 @@
 // What a build is asked and what it answers.
+ghost use mathlib.Core.Path.{_≡_};
+ghost use Rattle.request.specs.Build.{refusedBy};
 
 // Which rows start a path: those with parent 0, or those whose numeral is in a lent list.
 pub enum Start {
@@ -15,7 +17,9 @@ pub struct Built {
 }
 
 // The answer of a refused build.
-pub fn refused(number: u32) -> Built {
+pub fn refused(number: u32) -> Built
+    ensures { λ r. ⌜ r ≡ refusedBy number ⌝ }
+{
     Built {
         refusal: number,
         nodes: 0,
