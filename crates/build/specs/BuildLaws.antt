@@ -1,0 +1,286 @@
+-- The branches of a build give the paper's answer. Assumes nothing.
+use mathlib.Core.Path.{_≡_, refl, sym, ap, ap₂, _∙_, subst}
+use mathlib.Core.Logic.{_≢_, _⊎_, inl, inr, ⊎-elim}
+use mathlib.Core.Bool.{Bool, true, false, cond, not, _&&_, _||_}
+use mathlib.Core.List.{List, [], _∷_, _++_, map, append-nil}
+use Prim.Native.Nat.{ℕ, zero, suc, _+_, _-_, _*_, _/_, _≤_, _<_, min}
+use native.Mathlib.Omega.{arith}
+use native.Mathlib.Decide.{ℕ-discrete, decLt}
+use borrow.Author.Tests.{eq-eqb, ne-eqb, lt-ltb, le-ltb, lt-leb, le-leb, ltb-true, ltb-false, leb-true, leb-false, eqb-true, eqb-false}
+use lib.Dec.{T, eqb, leb, ltb, eqb→eq}
+use lib.IntN.{ℤ, pos}
+use lib.ListN.{length, getD, take, replicate, length-map, length-replicate, getD-replicate}
+use lib.Seq.{ext-getD, length-take-le}
+use Rattle.lists.specs.Members.{_∈_, filter, filter-in, filter-out, numbers, numbers-in, numbers-out, map-in, totalsFrom}
+use Rattle.lists.specs.Stores.{front}
+use Rattle.lists.specs.Counting.{by-place, by-place-length}
+use Rattle.lists.specs.Choice.{or-no}
+use Rattle.board.specs.declared.Row.{Row}
+use Rattle.board.specs.declared.Board.{Board}
+use Rattle.board.specs.Edits.{rowsOf, soundOf}
+use Rattle.board.specs.Laws.{sound-numeral, sound-count}
+use Rattle.image.specs.declared.Body.{Body}
+use Rattle.image.specs.Layout.{bit, flat, checked, imageWords}
+use Rattle.options.specs.declared.Depth.{Depth}
+use Rattle.options.specs.declared.Depth.the-variants.{None, Limit}
+use Rattle.options.specs.Options.{orphanOf, multiOf, cycleOf, choiceOf, levelLimit}
+use Rattle.orphans.specs.Flags.{lastFlag, topFlags}
+use Rattle.passes.specs.Passes.{reachedFlags}
+use Rattle.paths.specs.Forest.{memb, forest}
+use Rattle.paths.specs.Rows.{row as boardRow, num, par, RowOf}
+use Rattle.paths.specs.Paths.{last, error}
+use Rattle.paths.specs.Nodes.{sorted, starts, regular, orphanRows, orphanNodes, tops, nodes}
+use Rattle.paths.specs.Bodies.{bodies, runningTotals, leftOf}
+use Rattle.paths.specs.Refusals.{orphanChoice, given, isEmpty, refusal6, refusal7, refusal8, refusal9, refusal10, refusal11, refusal12, refusalOf}
+use Rattle.paths.specs.ForestLaws.{forest-nil, memb-in, memb-out}
+use Rattle.paths.specs.SiblingLaws.{sorted-is}
+use Rattle.paths.specs.BodyLaws.{bodies-length, bodies-rows, bodies-numerals, totals-bodies, left-bodies}
+use Rattle.paths.specs.Bounds.{bodies-bounded}
+use Rattle.request.specs.declared.Built.{Built}
+use Rattle.request.specs.Build.{refusedBy, buildRefusal, builtOf, indexAfter, totalsAfter}
+use Rattle.walk.specs.Walk.{Walked, flagged}
+use Rattle.walk.specs.declared.Met.{Met}
+use Rattle.enumerate.specs.Enumerate.{Ready, StartFlags, topsAmong}
+use Rattle.enumerate.specs.OrphanLaws.{tops-rows, row-count, few}
+use Rattle.enumerate.specs.EnumerateLaws.{all-starts, flags-long, child-count, one-flagged, none-flagged}
+use Rattle.build.specs.Work.{capacityOf, lacksStart, answerOf, Ran}
+
+-- ---- a refusal and its answer
+
+module _ (R : List Row) (code : ℕ) (depth : Depth) (start : Row → Bool) (words totals : ℕ) where
+  pub refused-answer : (q : ℕ) → refusalOf R code depth start words totals ≡ q → (q ≡ 0 → ⊥) → refusedBy q ≡ answerOf R code depth start words totals
+  unfolding answerOf
+  refused-answer q e n =
+      let f : eqb (refusalOf R code depth start words totals) 0 ≡ false = ne-eqb (refusalOf R code depth start words totals) 0 (λ z. n (sym e ∙ z)) in
+      λ i. record {
+        refusal = sym e i;
+        nodes = sym (ap (λ (t : Bool). cond t (length (nodes R start depth (orphanChoice (orphanOf code)))) 0) f) i;
+        left = sym (ap (λ (t : Bool). cond t (leftOf R start depth (orphanChoice (orphanOf code))) 0) f) i;
+      }
+
+  module _ (six : refusal6 code ≡ false) (seven : refusal7 (orphanOf code) depth ≡ false) where
+    bs : List Body
+    bs = bodies R start depth (orphanChoice (orphanOf code))
+
+    pub by-eight : refusal8 (orphanOf code) (tops R start depth) (starts R start) ≡ true → refusalOf R code depth start words totals ≡ 8
+    unfolding refusalOf
+    by-eight e = simp (six, seven, e)
+
+    module _ (eight : refusal8 (orphanOf code) (tops R start depth) (starts R start) ≡ false) where
+      pub by-nine : refusal9 (length (bodies R start depth (orphanChoice (orphanOf code)))) words totals ≡ true → refusalOf R code depth start words totals ≡ 9
+      unfolding refusalOf
+      by-nine e = simp (six, seven, eight, e)
+
+      pub by-late : refusal9 (length (bodies R start depth (orphanChoice (orphanOf code)))) words totals ≡ false
+          → refusalOf R code depth start words totals
+          ≡ cond (refusal10 (cycleOf code) (bodies R start depth (orphanChoice (orphanOf code)))) 10 (cond (refusal11 (multiOf code) (bodies R start depth (orphanChoice (orphanOf code)))) 11 (cond (refusal12 (orphanOf code) (orphanRows R start depth)) 12 0))
+      unfolding refusalOf
+      by-late e = simp (six, seven, eight, e)
+
+pub by-six : (R : List Row) (code : ℕ) (depth : Depth) (start : Row → Bool) (words totals : ℕ) → refusal6 code ≡ true → refusalOf R code depth start words totals ≡ 6
+unfolding refusalOf
+by-six R code depth start words totals e = simp e
+
+pub by-seven : (R : List Row) (code : ℕ) (depth : Depth) (start : Row → Bool) (words totals : ℕ) → refusal6 code ≡ false → refusal7 (orphanOf code) depth ≡ true → refusalOf R code depth start words totals ≡ 7
+unfolding refusalOf
+by-seven R code depth start words totals six e = simp (six, e)
+
+-- ---- a board that is sound or not
+
+pub unsound-answer : (b : Board) (code : ℕ) (depth : Depth) (start : Row → Bool) (words totals : ℕ) → soundOf b ≡ false → refusedBy 1 ≡ builtOf b code depth start words totals
+unfolding builtOf buildRefusal
+unsound-answer b code depth start words totals e = simp e
+
+pub sound-answer : (b : Board) (code : ℕ) (depth : Depth) (start : Row → Bool) (words totals : ℕ) → soundOf b ≡ true → answerOf (rowsOf b) code depth start words totals ≡ builtOf b code depth start words totals
+unfolding builtOf buildRefusal answerOf
+sound-answer b code depth start words totals e = simp e
+
+pub sound-refusal : (b : Board) (code : ℕ) (depth : Depth) (start : Row → Bool) (words totals : ℕ) → soundOf b ≡ true → buildRefusal b code depth start words totals ≡ refusalOf (rowsOf b) code depth start words totals
+unfolding buildRefusal
+sound-refusal b code depth start words totals e = simp e
+
+-- ---- 7: a depth is given
+
+pub given-test : (depth : Depth) (orphan : ℕ) → refusal7 orphan depth ≡ false → 1 < orphan → depth ≡ None
+given-test None orphan e h = refl
+given-test (Limit d) orphan e h = let f = ap (λ (t : Bool). not t) (ne-eqb orphan 0 (λ z. absurd (omega arith))) in let z : _≡_ {A = ℕ} 0 1 = cc in absurd (omega arith)
+
+-- ---- 9: what the slices hold
+
+pub capacity-fits : (n words totals : ℕ) → 8 ≤ words → 1 ≤ totals → n ≤ capacityOf words totals → refusal9 n words totals ≡ false
+unfolding capacityOf
+capacity-fits n words totals a b h =
+    ap₂ _||_ (le-ltb 65535 n (omega arith)) (ap₂ _||_ (le-ltb words (8 + 6 * n) (omega arith)) (le-ltb totals (n + 1) (omega arith)))
+
+pub capacity-over : (n words totals : ℕ) → 8 ≤ words → 1 ≤ totals → capacityOf words totals < n → refusal9 n words totals ≡ true
+unfolding capacityOf
+capacity-over n words totals a b h = go (ltb 65535 n) refl (ltb words (8 + 6 * n)) refl (ltb totals (n + 1)) refl
+  where
+    go : (x : Bool) → ltb 65535 n ≡ x → (y : Bool) → ltb words (8 + 6 * n) ≡ y → (z : Bool) → ltb totals (n + 1) ≡ z → (x || (y || z)) ≡ true
+    go true e y f z g = refl
+    go false e true f z g = refl
+    go false e false f true g = refl
+    go false e false f false g = absurd (omega (arith, ltb-false 65535 n e, ltb-false words (8 + 6 * n) f, ltb-false totals (n + 1) g))
+
+pub capacity-bounds : (words totals : ℕ) → 8 ≤ words → (capacityOf words totals ≤ 65535) × (8 + 6 * capacityOf words totals ≤ words) × (capacityOf words totals ≤ totals - 1)
+unfolding capacityOf
+capacity-bounds words totals a = omega arith
+
+pub short-index : (n words totals : ℕ) → words < 8 → refusal9 n words totals ≡ true
+short-index n words totals h = go (ltb 65535 n)
+  where
+    go : (x : Bool) → (x || (ltb words (8 + 6 * n) || ltb totals (n + 1))) ≡ true
+    go true = refl
+    go false = ap (λ (y : Bool). y || ltb totals (n + 1)) (lt-ltb words (8 + 6 * n) (omega arith))
+
+pub short-totals : (n words totals : ℕ) → totals < 1 → refusal9 n words totals ≡ true
+short-totals n words totals h = go (ltb 65535 n) (ltb words (8 + 6 * n))
+  where
+    go : (x y : Bool) → (x || (y || ltb totals (n + 1))) ≡ true
+    go true y = refl
+    go false true = refl
+    go false false = lt-ltb totals (n + 1) (omega arith)
+
+-- ---- 8: no start row and a top orphan
+
+zeros-reached : (n : ℕ) → replicate n 0 ≡ reachedFlags [] n
+unfolding reachedFlags
+zeros-reached n =
+    ext-getD 0 (replicate n 0) (map (λ x. bit (memb x [])) (numbers 1 n)) (length-replicate {A = ℕ} n 0 ∙ sym (by-place-length (λ x. bit (memb x [])) 1 n))
+    (λ i h. getD-replicate {A = ℕ} n i 0 0 (omega (arith, length-replicate {A = ℕ} n 0)) ∙ sym (by-place (λ x. bit (memb x [])) 1 n i 0 (omega (arith, length-replicate {A = ℕ} n 0))))
+
+empty-none : (flags row l : List ℕ) (n : ℕ) → n ≡ length flags → map (λ q. getD row q 0) (flagged flags 0 n) ≡ l → n ≤ lastFlag flags → l ≡ []
+empty-none flags row l n e m h = sym m ∙ ap (map (λ q. getD row q 0)) (none-flagged flags n e h)
+
+some-flagged : (flags : List ℕ) (n : ℕ) → n ≡ length flags → lastFlag flags < n → lastFlag flags ∈ flagged flags 0 n
+unfolding flagged
+some-flagged flags n e h =
+    let p : ℕ = lastFlag flags in
+    let z : n - 0 ≡ n = omega arith in
+    let t : T (eqb (getD flags p 0) 1) = one e h in
+    subst (λ (j : ℕ). p ∈ filter (λ q. eqb (getD flags q 0) 1) (numbers 0 j)) (sym z) (filter-in (λ q. eqb (getD flags q 0) 1) (numbers 0 n) p (numbers-in 0 n p (omega arith) (omega arith)) t)
+  where
+    one : n ≡ length flags → lastFlag flags < n → T (eqb (getD flags (lastFlag flags) 0) 1)
+    one e h = filter-out (λ q. eqb (getD flags q 0) 1) (numbers (lastFlag flags) (n - lastFlag flags)) (lastFlag flags) (subst (λ (l : List ℕ). lastFlag flags ∈ l) (sym (one-flagged flags n e h)) (inl refl)) .1
+
+-- a list of flagged rows is empty exactly where no flag is set
+flags-empty : (flags row l : List ℕ) (n : ℕ) → n ≡ length flags → map (λ q. getD row q 0) (flagged flags 0 n) ≡ l → isEmpty l ≡ leb n (lastFlag flags)
+flags-empty flags row l n e m = go (decLt (lastFlag flags) n)
+  where
+    empty : (l : List ℕ) → l ≡ [] → isEmpty l ≡ true
+    empty l z = ap isEmpty z
+
+    full : (l : List ℕ) (x : ℕ) → x ∈ l → isEmpty l ≡ false
+    full [] x k = absurd k
+    full (y ∷ l) x k = refl
+
+    go : Dec (lastFlag flags < n) → isEmpty l ≡ leb n (lastFlag flags)
+    go (yes h) = full l (getD row (lastFlag flags) 0) (subst (λ (w : List ℕ). getD row (lastFlag flags) 0 ∈ w) m (map-in (λ q. getD row q 0) (flagged flags 0 n) (lastFlag flags) (some-flagged flags n e h))) ∙ sym (lt-leb n (lastFlag flags) h)
+    go (no h) = empty l (empty-none flags row l n e m (omega arith)) ∙ sym (le-leb n (lastFlag flags) (omega arith))
+
+-- without a start row every row is in U
+no-regular : (R : List Row) (start : Row → Bool) (depth : Depth) → starts R start ≡ [] → map last (regular R start depth) ≡ []
+unfolding regular
+no-regular R start depth e =
+    ap (λ (l : List ℕ). map last (forest (num R) (par R) (sorted R) (levelLimit depth (length R)) [] l)) e
+    ∙ ap (map last) (forest-nil (num R) (par R) (sorted R) (levelLimit depth (length R)) [])
+
+tops-all : (R : List Row) (start : Row → Bool) (depth : Depth) → starts R start ≡ [] → topsAmong R [] ≡ tops R start depth
+unfolding tops orphanRows
+tops-all R start depth e = ap (topsAmong R) (sym (no-regular R start depth e))
+
+module _ (R : List Row) (start : Row → Bool) (depth : Depth) (row parent numeral child next class owner keys flags : List ℕ)
+    (ready : Ready R row parent numeral child next class owner keys) (flags-are : StartFlags R start row flags) where
+  starts-empty : isEmpty (starts R start) ≡ leb (length row) (lastFlag flags)
+  starts-empty =
+      let c = child-count R start depth row parent numeral child next class owner keys flags ready flags-are in
+      let f = flags-long R start depth row parent numeral child next class owner keys flags ready flags-are in
+      flags-empty flags row (starts R start) (length row) (sym f)
+      (ap (λ (j : ℕ). map (λ q. getD row q 0) (flagged flags 0 j)) (sym c) ∙ all-starts R start depth row parent numeral child next class owner keys flags ready flags-are)
+
+  tops-empty : starts R start ≡ [] → (reached : List ℕ) → reached ≡ replicate (length row) 0 → isEmpty (tops R start depth) ≡ leb (length row) (lastFlag (topFlags row reached parent owner))
+  unfolding topFlags
+  tops-empty e reached z =
+      let t : List ℕ = topFlags row reached parent owner in
+      let same : t ≡ topFlags row (reachedFlags [] (length row)) parent owner = ap (λ (l : List ℕ). topFlags row l parent owner) (z ∙ zeros-reached (length row)) in
+      flags-empty t row (tops R start depth) (length row) (sym (by-place-length _ 0 (length row)))
+      (tops-rows R row parent numeral child next class owner keys ready [] t same ∙ tops-all R start depth e)
+
+  -- the test of refusal 8
+  pub lacks-start : (orphan : ℕ) (reached : List ℕ) → reached ≡ replicate (length row) 0 → lacksStart orphan flags row reached parent owner ≡ refusal8 orphan (tops R start depth) (starts R start)
+  unfolding lacksStart
+  lacks-start orphan reached z = ap (λ (t : Bool). eqb orphan 2 && t) (go (isEmpty (starts R start)) refl)
+    where
+      flip : (a b : ℕ) → ltb a b ≡ not (leb b a)
+      flip a b = side (decLt a b)
+        where
+          side : Dec (a < b) → ltb a b ≡ not (leb b a)
+          side (yes h) = lt-ltb a b h ∙ sym (ap not (lt-leb b a h))
+          side (no h) = le-ltb a b (omega arith) ∙ sym (ap not (le-leb b a (omega arith)))
+
+      nil : (l : List ℕ) → isEmpty l ≡ true → l ≡ []
+      nil [] e = refl
+      nil (x ∷ l) e = let q : _≡_ {A = ℕ} 0 1 = cc in absurd (omega arith)
+
+      and-no : (x : Bool) → (x && false) ≡ false
+      and-no true = refl
+      and-no false = refl
+
+      and-yes : (x : Bool) → (x && true) ≡ x
+      and-yes true = refl
+      and-yes false = refl
+
+      go : (s : Bool) → isEmpty (starts R start) ≡ s → (leb (length row) (lastFlag flags) && ltb (lastFlag (topFlags row reached parent owner)) (length row)) ≡ (not (isEmpty (tops R start depth)) && isEmpty (starts R start))
+      go true e =
+          ap (λ (t : Bool). t && ltb (lastFlag (topFlags row reached parent owner)) (length row)) (sym starts-empty ∙ e)
+          ∙ flip (lastFlag (topFlags row reached parent owner)) (length row)
+          ∙ ap not (sym (tops-empty (nil (starts R start) e) reached z))
+          ∙ sym (ap (λ (t : Bool). not (isEmpty (tops R start depth)) && t) e ∙ and-yes (not (isEmpty (tops R start depth))))
+      go false e =
+          ap (λ (t : Bool). t && ltb (lastFlag (topFlags row reached parent owner)) (length row)) (sym starts-empty ∙ e)
+          ∙ sym (ap (λ (t : Bool). not (isEmpty (tops R start depth)) && t) e ∙ and-no (not (isEmpty (tops R start depth))))
+
+error-rows : (R : List Row) (start : Row → Bool) (depth : Depth) → map last (nodes R start depth error) ≡ map last (regular R start depth)
+unfolding nodes orphanNodes
+error-rows R start depth = ap (map last) (append-nil (regular R start depth))
+
+-- "the number of rows that end no node", over bodies
+abbrev pub leftOver : List Row → List Body → ℕ
+leftOver R bs = length (filter (λ x. not (memb x (map (λ (b : Body). b .row) bs))) (numbers 1 (length R)))
+
+-- ---- 12: under error the rows of U are the rows that end no node
+
+unreached-left : (R : List Row) (start : Row → Bool) (depth : Depth) → isEmpty (orphanRows R start depth) ≡ eqb (leftOver R (bodies R start depth error)) 0
+unfolding orphanRows
+unreached-left R start depth =
+    let f : ℕ → Bool = λ (x : ℕ). not (memb x (map last (regular R start depth))) in
+    same f (filter f (sorted R)) (filter f (numbers 1 (length R)))
+    (λ x m. let q = filter-out f (sorted R) x m in let r = sorted-is R x .0 (q .0) in filter-in f (numbers 1 (length R)) x (numbers-in 1 (length R) x (r .0) (omega (arith, r))) (q .1))
+    (λ x m. let q = filter-out f (numbers 1 (length R)) x m in let r = numbers-out 1 (length R) x (q .0) in filter-in f (sorted R) x (sorted-is R x .1 (omega (arith, r))) (q .1))
+    ∙ ap (λ (l : List ℕ). eqb (length (filter (λ x. not (memb x l)) (numbers 1 (length R)))) 0) (sym (bodies-rows R start depth error ∙ error-rows R start depth))
+  where
+    same : (f : ℕ → Bool) (l m : List ℕ) → ((x : ℕ) → x ∈ l → x ∈ m) → ((x : ℕ) → x ∈ m → x ∈ l) → isEmpty l ≡ eqb (length m) 0
+    same f [] [] a b = refl
+    same f [] (y ∷ m) a b = absurd (b y (inl refl))
+    same f (x ∷ l) [] a b = absurd (a x (inl refl))
+    same f (x ∷ l) (y ∷ m) a b = sym (ne-eqb (suc (length m)) 0 (λ e. absurd (omega arith)))
+
+-- ---- the branches of the test of refusal 8
+
+module _ (orphan : ℕ) (flags row reached parent owner : List ℕ) where
+  pub lacks-not-adopt : (orphan ≡ 2 → ⊥) → false ≡ lacksStart orphan flags row reached parent owner
+  unfolding lacksStart
+  lacks-not-adopt n = sym (ap (λ (t : Bool). t && (leb (length row) (lastFlag flags) && ltb (lastFlag (topFlags row reached parent owner)) (length row))) (ne-eqb orphan 2 n))
+
+  pub lacks-not-bare : (p : ℕ) → orphan ≡ 2 → p ≡ lastFlag flags → p < length row → false ≡ lacksStart orphan flags row reached parent owner
+  unfolding lacksStart
+  lacks-not-bare p two e h =
+      sym (ap (λ (t : Bool). t && (leb (length row) (lastFlag flags) && ltb (lastFlag (topFlags row reached parent owner)) (length row))) (eq-eqb orphan 2 two)
+      ∙ ap (λ (t : Bool). t && ltb (lastFlag (topFlags row reached parent owner)) (length row)) (lt-leb (length row) (lastFlag flags) (omega arith)))
+
+  pub lacks-tops : (p q : ℕ) (tops : List ℕ) → orphan ≡ 2 → p ≡ lastFlag flags → length row ≤ p → tops ≡ topFlags row reached parent owner → q ≡ lastFlag tops → ltb q (length row) ≡ lacksStart orphan flags row reached parent owner
+  unfolding lacksStart
+  lacks-tops p q tops two e h t f =
+      ap (λ (k : ℕ). ltb k (length row)) (f ∙ ap lastFlag t)
+      ∙ sym (ap (λ (t : Bool). t && (leb (length row) (lastFlag flags) && ltb (lastFlag (topFlags row reached parent owner)) (length row))) (eq-eqb orphan 2 two)
+        ∙ ap (λ (t : Bool). t && ltb (lastFlag (topFlags row reached parent owner)) (length row)) (le-leb (length row) (lastFlag flags) (omega arith)))

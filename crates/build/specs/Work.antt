@@ -1,0 +1,69 @@
+-- What the steps of a build answer and leave. Assumes nothing: these are definitions.
+use mathlib.Core.Path.{_≡_}
+use mathlib.Core.Bool.{Bool, cond, _&&_}
+use mathlib.Core.List.{List, map}
+use Prim.Native.Nat.{ℕ, _-_, _/_, min, _≤_}
+use lib.Dec.{eqb, leb, ltb}
+use lib.IntN.{ℤ, pos}
+use lib.ListN.{length, replicate}
+use Rattle.lists.specs.Stores.{front}
+use Rattle.board.specs.declared.Row.{Row}
+use Rattle.board.specs.declared.Board.{Board}
+use Rattle.board.specs.Edits.{rowsOf}
+use Rattle.enumerate.specs.Enumerate.{Ready, StartFlags}
+use Rattle.request.specs.Build.{buildRefusal, builtOf}
+use Rattle.image.specs.Layout.{imageWords}
+use Rattle.options.specs.declared.Depth.{Depth}
+use Rattle.options.specs.Options.{orphanOf}
+use Rattle.orphans.specs.Flags.{lastFlag, topFlags}
+use Rattle.paths.specs.Nodes.{nodes}
+use Rattle.paths.specs.Bodies.{bodies, runningTotals, leftOf}
+use Rattle.paths.specs.Refusals.{orphanChoice, refusalOf}
+use Rattle.request.specs.declared.Built.{Built}
+
+-- how many nodes the slices hold, at most 65,535; the index has 8 words or more, the totals one or more
+unfoldable pub capacityOf : ℕ → ℕ → ℕ
+capacityOf words totals = min 65535 (min ((words - 8) / 6) (totals - 1))
+
+-- adopt, no start row flagged, and a row whose parent is 0 or no row's numeral
+unfoldable pub lacksStart : ℕ → List ℕ → List ℕ → List ℕ → List ℕ → List ℕ → Bool
+lacksStart orphan flags row reached parent owner =
+    eqb orphan 2 && (leb (length row) (lastFlag flags) && ltb (lastFlag (topFlags row reached parent owner)) (length row))
+
+module _ (R : List Row) (code : ℕ) (depth : Depth) (start : Row → Bool) where
+  -- a build's answer over rows that are sound
+  unfoldable pub answerOf : ℕ → ℕ → Built
+  answerOf words totals =
+      record {
+        refusal = refusalOf R code depth start words totals;
+        nodes = cond (eqb (refusalOf R code depth start words totals) 0) (length (nodes R start depth (orphanChoice (orphanOf code)))) 0;
+        left = cond (eqb (refusalOf R code depth start words totals) 0) (leftOf R start depth (orphanChoice (orphanOf code))) 0;
+      }
+
+  -- the answer, and where nothing is refused the image and the totals; a refused build may leave anything
+  pub record Ran (index index′ : List ℕ) (totals totals′ : List ℤ) (r : Built) : Type 0 where
+    pub answer : r ≡ answerOf (length index) (length totals)
+    pub index-is : refusalOf R code depth start (length index) (length totals) ≡ 0 → index′ ≡ front (imageWords (bodies R start depth (orphanChoice (orphanOf code)))) index
+    pub totals-are : refusalOf R code depth start (length index) (length totals) ≡ 0 → totals′ ≡ front (runningTotals R (nodes R start depth (orphanChoice (orphanOf code)))) totals
+
+-- rows of a board are prepared for a walk
+pub record AnyBoard (row parent numeral child next class owner numeralKeys flags : List ℕ) (minutes : List ℤ) : Type 0 where
+  pub R : List Row
+  pub start : Row → Bool
+  pub ready : Ready R row parent numeral child next class owner numeralKeys
+  pub flags-are : StartFlags R start row flags
+  pub minutes-are : minutes ≡ map (λ (r : Row). r .minutes) R
+
+-- the answer of a build of a board; a refused one may leave anything
+pub record Attempted (b : Board) (code : ℕ) (depth : Depth) (start : Row → Bool) (index index′ : List ℕ) (totals totals′ : List ℤ) (r : Built) : Type 0 where
+  pub answer : r ≡ builtOf b code depth start (length index) (length totals)
+  pub index-is : buildRefusal b code depth start (length index) (length totals) ≡ 0 → index′ ≡ front (imageWords (bodies (rowsOf b) start depth (orphanChoice (orphanOf code)))) index
+  pub totals-are : buildRefusal b code depth start (length index) (length totals) ≡ 0 → totals′ ≡ front (runningTotals (rowsOf b) (nodes (rowsOf b) start depth (orphanChoice (orphanOf code)))) totals
+
+-- the slices that a build works in: n places each, the flags and marks all 0
+pub record Bench (n : ℕ) (reached masked marks kinds counts : List ℕ) : Type 0 where
+  pub reached-clear : reached ≡ replicate n 0
+  pub masked-long : length masked ≡ n
+  pub marks-clear : marks ≡ replicate n 0
+  pub kinds-long : length kinds ≡ n
+  pub counts-clear : counts ≡ replicate n 0
