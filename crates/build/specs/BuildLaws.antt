@@ -11,7 +11,7 @@ use lib.Dec.{T, eqb, leb, ltb, eqb→eq}
 use lib.IntN.{ℤ, pos}
 use lib.ListN.{length, getD, take, replicate, length-map, length-replicate, getD-replicate}
 use lib.Seq.{ext-getD, length-take-le}
-use Rattle.lists.specs.Members.{_∈_, filter, filter-in, filter-out, numbers, numbers-in, numbers-out, map-in, totalsFrom}
+use Rattle.lists.specs.Members.{_∈_, getD-in, filter, filter-in, filter-out, numbers, numbers-in, numbers-out, map-in, totalsFrom}
 use Rattle.lists.specs.Stores.{front}
 use Rattle.lists.specs.Counting.{by-place, by-place-length}
 use Rattle.lists.specs.Choice.{or-no}
@@ -27,7 +27,7 @@ use Rattle.options.specs.Options.{orphanOf, multiOf, cycleOf, choiceOf, levelLi
 use Rattle.orphans.specs.Flags.{lastFlag, topFlags}
 use Rattle.passes.specs.Passes.{reachedFlags}
 use Rattle.paths.specs.Forest.{memb, forest}
-use Rattle.paths.specs.Rows.{row as boardRow, num, par, RowOf}
+use Rattle.paths.specs.Rows.{row as boardRow, noRow, num, par, RowOf}
 use Rattle.paths.specs.Paths.{last, error}
 use Rattle.paths.specs.Nodes.{sorted, starts, regular, orphanRows, orphanNodes, tops, nodes}
 use Rattle.paths.specs.Bodies.{bodies, runningTotals, leftOf}
@@ -43,7 +43,7 @@ use Rattle.walk.specs.declared.Met.{Met}
 use Rattle.enumerate.specs.Enumerate.{Ready, StartFlags, topsAmong}
 use Rattle.enumerate.specs.OrphanLaws.{tops-rows, row-count, few}
 use Rattle.enumerate.specs.EnumerateLaws.{all-starts, flags-long, child-count, one-flagged, none-flagged}
-use Rattle.build.specs.Work.{capacityOf, lacksStart, answerOf, Ran}
+use Rattle.build.specs.Work.{capacityOf, lacksStart, answerOf, Ran, Attempted}
 
 -- ---- a refusal and its answer
 
@@ -284,3 +284,96 @@ module _ (orphan : ℕ) (flags row reached parent owner : List ℕ) where
       ap (λ (k : ℕ). ltb k (length row)) (f ∙ ap lastFlag t)
       ∙ sym (ap (λ (t : Bool). t && (leb (length row) (lastFlag flags) && ltb (lastFlag (topFlags row reached parent owner)) (length row))) (eq-eqb orphan 2 two)
         ∙ ap (λ (t : Bool). t && ltb (lastFlag (topFlags row reached parent owner)) (length row)) (le-leb (length row) (lastFlag flags) (omega arith)))
+
+-- ---- the branches of the test of refusal 7
+
+pub depth-free : (orphan : ℕ) (depth : Depth) → orphan ≡ 0 → false ≡ refusal7 orphan depth
+depth-free orphan depth e = sym (ap (λ (t : Bool). given depth && not t) (eq-eqb orphan 0 e) ∙ and-no (given depth))
+  where
+    and-no : (x : Bool) → (x && false) ≡ false
+    and-no true = refl
+    and-no false = refl
+
+pub depth-asked : (orphan : ℕ) (depth : Depth) (t : Bool) → (orphan ≡ 0 → ⊥) → t ≡ given depth → t ≡ refusal7 orphan depth
+depth-asked orphan depth t n e = e ∙ sym (ap (λ (s : Bool). given depth && not s) (ne-eqb orphan 0 n) ∙ and-yes (given depth))
+  where
+    and-yes : (x : Bool) → (x && true) ≡ x
+    and-yes true = refl
+    and-yes false = refl
+
+-- ---- local arrays
+
+pub take-replicate : {A : Type 0} (n m : ℕ) (a : A) → n ≤ m → take n (replicate m a) ≡ replicate n a
+take-replicate zero m a h = refl
+take-replicate (suc n) zero a h = absurd (omega arith)
+take-replicate (suc n) (suc m) a h = ap (λ (l : List _). a ∷ l) (take-replicate n m a (omega arith))
+
+-- ---- a board's answer
+
+pub attempt-refused : (b : Board) (code : ℕ) (depth : Depth) (start : Row → Bool) (index index′ : List ℕ) (totals totals′ : List ℤ) (q : ℕ)
+    → buildRefusal b code depth start (length index) (length totals) ≡ q → (q ≡ 0 → ⊥) → refusedBy q ≡ builtOf b code depth start (length index) (length totals) → Attempted b code depth start index index′ totals totals′ (refusedBy q)
+attempt-refused b code depth start index index′ totals totals′ q e n a = record { answer = a; index-is = λ z. absurd (n (sym e ∙ z)); totals-are = λ z. absurd (n (sym e ∙ z)) }
+
+pub unsound-refusal : (b : Board) (code : ℕ) (depth : Depth) (start : Row → Bool) (words totals : ℕ) → soundOf b ≡ false → buildRefusal b code depth start words totals ≡ 1
+unfolding buildRefusal
+unsound-refusal b code depth start words totals e = simp e
+
+-- a board that is sound and refused by a number
+pub attempt-sound : (b : Board) (code : ℕ) (depth : Depth) (start : Row → Bool) (index index′ : List ℕ) (totals totals′ : List ℤ) (q : ℕ) → soundOf b ≡ true
+    → refusalOf (rowsOf b) code depth start (length index) (length totals) ≡ q → (q ≡ 0 → ⊥) → Attempted b code depth start index index′ totals totals′ (refusedBy q)
+attempt-sound b code depth start index index′ totals totals′ q s e n =
+    attempt-refused b code depth start index index′ totals totals′ q (sound-refusal b code depth start (length index) (length totals) s ∙ e) n
+    (refused-answer (rowsOf b) code depth start (length index) (length totals) q e n ∙ sound-answer b code depth start (length index) (length totals) s)
+
+pub attempt-unsound : (b : Board) (code : ℕ) (depth : Depth) (start : Row → Bool) (index index′ : List ℕ) (totals totals′ : List ℤ) → soundOf b ≡ false → Attempted b code depth start index index′ totals totals′ (refusedBy 1)
+attempt-unsound b code depth start index index′ totals totals′ s =
+    attempt-refused b code depth start index index′ totals totals′ 1 (unsound-refusal b code depth start (length index) (length totals) s) (λ z. absurd (omega arith)) (unsound-answer b code depth start (length index) (length totals) s)
+
+-- the rows of a sound board were built
+pub attempt-ran : (b : Board) (code : ℕ) (depth : Depth) (start : Row → Bool) (index index′ : List ℕ) (totals totals′ : List ℤ) (r : Built) → soundOf b ≡ true
+    → Ran (rowsOf b) code depth start index index′ totals totals′ r → Attempted b code depth start index index′ totals totals′ r
+attempt-ran b code depth start index index′ totals totals′ r s w =
+    let e = sound-refusal b code depth start (length index) (length totals) s in
+    record { answer = w .answer ∙ sound-answer b code depth start (length index) (length totals) s; index-is = λ z. w .index-is (sym e ∙ z); totals-are = λ z. w .totals-are (sym e ∙ z) }
+
+-- each row of a sound board has a numeral
+pub sound-numbered : (b : Board) → soundOf b ≡ true → (x : ℕ) → RowOf (rowsOf b) x → num (rowsOf b) x ≢ 0
+sound-numbered b s zero r z = absurd (omega (arith, r))
+sound-numbered b s (suc k) r z = absurd (omega (arith, sound-numeral b s (getD (rowsOf b) k noRow) (getD-in (rowsOf b) k noRow (omega (arith, r)))))
+
+-- ---- the whole build
+
+module _ (b : Board) (code : ℕ) (depth : Depth) (start : Row → Bool) (index index′ : List ℕ) (totals totals′ : List ℤ) (r : Built) (w : Attempted b code depth start index index′ totals totals′ r) where
+  refusal-is : r .refusal ≡ buildRefusal b code depth start (length index) (length totals)
+  unfolding builtOf
+  refusal-is = ap (λ (x : Built). x .refusal) (w .answer)
+
+  pub accepted-index : r .refusal ≡ 0 → index′ ≡ indexAfter b code depth start index (length totals)
+  unfolding indexAfter
+  accepted-index e =
+      let z = sym refusal-is ∙ e in
+      w .index-is z ∙ sym (ap (λ (t : Bool). cond t (front (imageWords (bodies (rowsOf b) start depth (orphanChoice (orphanOf code)))) index) (replicate (length index) 0)) (eq-eqb (buildRefusal b code depth start (length index) (length totals)) 0 z))
+
+  pub accepted-totals : r .refusal ≡ 0 → totals′ ≡ totalsAfter b code depth start (length index) totals
+  unfolding totalsAfter
+  accepted-totals e =
+      let z = sym refusal-is ∙ e in
+      w .totals-are z ∙ sym (ap (λ (t : Bool). cond t (front (runningTotals (rowsOf b) (nodes (rowsOf b) start depth (orphanChoice (orphanOf code)))) totals) (replicate (length totals) (pos 0))) (eq-eqb (buildRefusal b code depth start (length index) (length totals)) 0 z))
+
+  pub refused-index : (r .refusal ≡ 0 → ⊥) → (zeros : List ℕ) → zeros ≡ replicate (length index) 0 → zeros ≡ indexAfter b code depth start index (length totals)
+  unfolding indexAfter
+  refused-index n zeros e =
+      e ∙ sym (ap (λ (t : Bool). cond t (front (imageWords (bodies (rowsOf b) start depth (orphanChoice (orphanOf code)))) index) (replicate (length index) 0)) (ne-eqb (buildRefusal b code depth start (length index) (length totals)) 0 (λ z. n (refusal-is ∙ z))))
+
+  pub refused-totals : (r .refusal ≡ 0 → ⊥) → (zeros : List ℤ) → zeros ≡ replicate (length totals) (pos 0) → zeros ≡ totalsAfter b code depth start (length index) totals
+  unfolding totalsAfter
+  refused-totals n zeros e =
+      e ∙ sym (ap (λ (t : Bool). cond t (front (runningTotals (rowsOf b) (nodes (rowsOf b) start depth (orphanChoice (orphanOf code)))) totals) (replicate (length totals) (pos 0))) (ne-eqb (buildRefusal b code depth start (length index) (length totals)) 0 (λ z. n (refusal-is ∙ z))))
+
+pub attempt-as : (b : Board) (code : ℕ) (depth : Depth) (start : Row → Bool) (index index′ : List ℕ) (totals totals′ : List ℤ) (q : ℕ) (r : Built) → r ≡ refusedBy q
+    → Attempted b code depth start index index′ totals totals′ (refusedBy q) → Attempted b code depth start index index′ totals totals′ r
+attempt-as b code depth start index index′ totals totals′ q r e w = subst (λ (x : Built). Attempted b code depth start index index′ totals totals′ x) (sym e) w
+
+pub ran-rows : (j k : ℕ) (rows : List Row) (code : ℕ) (depth : Depth) (start : Row → Bool) (index index′ : List ℕ) (totals totals′ : List ℤ) (r : Built) → j ≡ k
+    → Ran (take j rows) code depth start index index′ totals totals′ r → Ran (take k rows) code depth start index index′ totals totals′ r
+ran-rows j k rows code depth start index index′ totals totals′ r e w = subst (λ (i : ℕ). Ran (take i rows) code depth start index index′ totals totals′ r) e w

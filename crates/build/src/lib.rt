@@ -68,6 +68,16 @@ fn is_given(depth: Depth) -> bool
     }
 }
 
+// Whether a depth is given and orphan isn't 0.
+fn is_depth_refused(orphan: u32, depth: Depth) -> bool
+    ensures { λ r. ⌜ r ≡ refusal7 orphan depth ⌝ }
+{
+    if orphan == 0 {
+        return false;
+    }
+    is_given(depth)
+}
+
 // Whether adopt meets a top orphan and there is no start row.
 fn lacks_start(
     orphan: u32,
@@ -91,3 +101,131 @@ fn lacks_start(
     orphans::last_flag(tops) < row.len()
 }
 
+// The build of the first rows, as many as each slice has places. Where it is refused, both slices may hold anything.
+fn run(
+    rows: [Row; 1024],
+    code: u32,
+    depth: Depth,
+    start: Start,
+    list: &[u32],
+    minutes: &mut [i32],
+    row: &mut [u32],
+    parent: &mut [u32],
+    numeral: &mut [u32],
+    child: &mut [u32],
+    next: &mut [u32],
+    class: &mut [u32],
+    owner: &mut [u32],
+    flags: &mut [u32],
+    parent_keys: &mut [u64],
+    numeral_keys: &mut [u64],
+    scratch: &mut [u64],
+    reached: &mut [u32],
+    masked: &mut [u32],
+    marks: &mut [u32],
+    kinds: &mut [u32],
+    counts: &mut [u32],
+    index: &mut [u32],
+    totals: &mut [i64],
+) -> Built
+    requires { ⌜ (refusal6 code ≡ false) × (refusal7 (orphanOf code) depth ≡ false) × ((x : ℕ) → RowOf (take (length (now row)) rows) x → num (take (length (now row)) rows) x ≢ 0) ⌝ }
+    requires { ⌜ Places (length (now row)) (length (now minutes)) (length (now row)) (length (now parent)) (length (now numeral)) (length (now child)) (length (now next)) (length (now class)) (length (now owner)) (length (now flags)) (length (now «parent_keys»)) (length (now «numeral_keys»)) (length (now scratch)) ⌝ }
+    requires { ⌜ Bench (length (now row)) (now reached) (now masked) (now marks) (now kinds) (now counts) ⌝ }
+    ensures { λ r. ⌜ Ran (take (length (now (row .entry))) rows) code depth (startRule start (now (list .entry))) (now (index .entry)) (now (index .exit)) (now (totals .entry)) (now (totals .exit)) r ⌝ }
+{
+    request::refused(9)
+}
+
+// The build of n rows, in working arrays of its own.
+fn work(
+    rows: [Row; 1024],
+    n: usize,
+    code: u32,
+    depth: Depth,
+    start: Start,
+    list: &[u32],
+    index: &mut [u32],
+    totals: &mut [i64],
+) -> Built
+    requires { ⌜ (n ≤ 1024) × (refusal6 code ≡ false) × (refusal7 (orphanOf code) depth ≡ false) × ((x : ℕ) → RowOf (take n rows) x → num (take n rows) x ≢ 0) ⌝ }
+    ensures { λ r. ⌜ Ran (take n rows) code depth (startRule start (now (list .entry))) (now (index .entry)) (now (index .exit)) (now (totals .entry)) (now (totals .exit)) r ⌝ }
+{
+    let mut minutes = [0i32; 1024];
+    let mut row = [0u32; 1024];
+    let mut parent = [0u32; 1024];
+    let mut numeral = [0u32; 1024];
+    let mut child = [0u32; 1024];
+    let mut next = [0u32; 1024];
+    let mut class = [0u32; 1024];
+    let mut owner = [0u32; 1024];
+    let mut flags = [0u32; 1024];
+    let mut parent_keys = [0u64; 1024];
+    let mut numeral_keys = [0u64; 1024];
+    let mut scratch = [0u64; 1024];
+    let mut reached = [0u32; 1024];
+    let mut masked = [0u32; 1024];
+    let mut marks = [0u32; 1024];
+    let mut kinds = [0u32; 1024];
+    let mut counts = [0u32; 1024];
+    run(rows, code, depth, start, list, &mut minutes[..n], &mut row[..n], &mut parent[..n], &mut numeral[..n], &mut child[..n], &mut next[..n], &mut class[..n], &mut owner[..n], &mut flags[..n], &mut parent_keys[..n], &mut numeral_keys[..n], &mut scratch[..n], &mut reached[..n], &mut masked[..n], &mut marks[..n], &mut kinds[..n], &mut counts[..n], index, totals)
+}
+
+// The build of a board. Where it is refused, both slices may hold anything.
+fn attempt(
+    board: Board,
+    code: u32,
+    depth: Depth,
+    start: Start,
+    list: &[u32],
+    index: &mut [u32],
+    totals: &mut [i64],
+) -> Built
+    ensures { λ r. ⌜ Attempted board code depth (startRule start (now (list .entry))) (now (index .entry)) (now (index .exit)) (now (totals .entry)) (now (totals .exit)) r ⌝ }
+{
+    if !board.sound() {
+        return request::refused(1);
+    }
+    if 23 < code {
+        return request::refused(6);
+    }
+    let choice = options::choices(code as usize);
+    if is_depth_refused(choice.orphan, depth) {
+        return request::refused(7);
+    }
+    let rows = board.rows;
+    let n = board.count;
+    work(rows, n, code, depth, start, list, index, totals)
+}
+
+// Builds the index of a board and its running totals. A refused build leaves both slices all zero.
+pub fn build(
+    board: Board,
+    code: u32,
+    depth: Depth,
+    start: Start,
+    list: &[u32],
+    index: &mut [u32],
+    totals: &mut [i64],
+) -> Built
+    ensures { λ r. ⌜ r ≡ builtOf board code depth (startRule start (now (list .entry))) (length (now (index .entry))) (length (now (totals .entry))) ⌝ }
+    ensures { λ _. ⌜ now (index .exit) ≡ indexAfter board code depth (startRule start (now (list .entry))) (now (index .entry)) (length (now (totals .entry))) ⌝ }
+    ensures { λ _. ⌜ now (totals .exit) ≡ totalsAfter board code depth (startRule start (now (list .entry))) (length (now (index .entry))) (now (totals .entry)) ⌝ }
+{
+    let built = attempt(board, code, depth, start, list, index, totals);
+    if built.refusal == 0 {
+        return built;
+    }
+    clear_words(index);
+    clear_totals(totals);
+    built
+}
+
+// The build by default: code 0, no depth, the rows with parent 0.
+pub fn build_default(board: Board, index: &mut [u32], totals: &mut [i64]) -> Built
+    ensures { λ r. ⌜ r ≡ builtOf board 0 None parentZero (length (now (index .entry))) (length (now (totals .entry))) ⌝ }
+    ensures { λ _. ⌜ now (index .exit) ≡ indexAfter board 0 None parentZero (now (index .entry)) (length (now (totals .entry))) ⌝ }
+    ensures { λ _. ⌜ now (totals .exit) ≡ totalsAfter board 0 None parentZero (length (now (index .entry))) (now (totals .entry)) ⌝ }
+{
+    let unread = [0u32; 1];
+    build(board, 0, Depth::None, Start::ParentZero, &unread, index, totals)
+}
