@@ -28,7 +28,7 @@ getD-packed i [] k h = absurd (omega arith)
 getD-packed i (x ∷ l) zero h = omega arith
 getD-packed i (x ∷ l) (suc k) h = getD-packed (suc i) l k (omega arith) ∙ omega arith
 
-packed-out : (i : ℕ) (F : List ℕ) (v : ℕ) → v ∈ packed i F → (k : ℕ) × (k < length F) × (v ≡ getD F k 0 * 1024 + (i + k))
+pub packed-out : (i : ℕ) (F : List ℕ) (v : ℕ) → v ∈ packed i F → (k : ℕ) × (k < length F) × (v ≡ getD F k 0 * 1024 + (i + k))
 unfolding packed
 packed-out i [] v m = absurd m
 packed-out i (x ∷ l) v (inl e) = (0, omega arith, omega arith)
