@@ -1,18 +1,18 @@
 -- Sorted keys, what a search in them finds, and the first places of numbers. Assumes nothing.
-use mathlib.Core.Path.{_≡_, refl, sym, ap, ap₂, subst, _∙_}
-use mathlib.Core.Logic.{_⊎_, inl, inr, ⊎-elim, _≢_}
+use mathlib.Core.Path.{_≡_, refl, sym, ap, subst, _∙_}
+use mathlib.Core.Logic.{inl, inr, _≢_}
 use mathlib.Core.Bool.{Bool, true, false, cond}
 use mathlib.Core.List.{List, [], _∷_, map}
 use Prim.Native.Nat.{ℕ, zero, suc, _+_, _-_, _*_, _%_, _≤_, _<_}
 use native.Mathlib.Omega.{arith}
 use native.Mathlib.Decide.{decLt, ℕ-discrete}
 use borrow.Author.Tests.{lt-ltb, le-ltb, eq-eqb, ne-eqb}
-use lib.Dec.{T, ltb, eqb, ltb→lt, lt→ltb}
+use lib.Dec.{ltb, eqb}
 use lib.ListN.{length, getD, drop, length-drop, length-map}
 use lib.Seq.{getD-drop}
-use Rattle.lists.specs.Members.{_∈_, sort, sort-in, sort-out, getD-in, Increasing, increasing-sort, numbers, numbers-length, getD-numbers}
+use Rattle.lists.specs.Members.{_∈_, sort, sort-in, sort-out, getD-in, Increasing, numbers, numbers-length, getD-numbers}
 use Rattle.lists.specs.Stores.{getD-mapped}
-use Rattle.lists.specs.Sorting.{length-sort}
+use Rattle.lists.specs.Sorting.{length-sort, increasing-sorted}
 use Rattle.links.specs.Links.{packed, keysOf, place, firstFrom, nexts, firsts, Rising, Lower, foundAt}
 
 -- ---- packed keys
@@ -28,7 +28,7 @@ getD-packed i [] k h = absurd (omega arith)
 getD-packed i (x ∷ l) zero h = omega arith
 getD-packed i (x ∷ l) (suc k) h = getD-packed (suc i) l k (omega arith) ∙ omega arith
 
-packed-out : (i : ℕ) (F : List ℕ) (v : ℕ) → v ∈ packed i F → (k : ℕ) × (k < length F) × (v ≡ getD F k 0 * 1024 + (i + k))
+pub packed-out : (i : ℕ) (F : List ℕ) (v : ℕ) → v ∈ packed i F → (k : ℕ) × (k < length F) × (v ≡ getD F k 0 * 1024 + (i + k))
 unfolding packed
 packed-out i [] v m = absurd m
 packed-out i (x ∷ l) v (inl e) = (0, omega arith, omega arith)
@@ -44,14 +44,7 @@ packed-distinct i (x ∷ l) h = ((λ y m. let r = packed-out (suc i) l y m in om
 
 increasing-keys : (F : List ℕ) → length F ≤ 1024 → Increasing (λ x y. x < y) (keysOf F)
 unfolding keysOf
-increasing-keys F h = increasing-sort ltb (λ x y. x < y) (λ x y t. ltb→lt x y t) (λ x y n d. no-lt x y n d) (λ x y z a b. omega arith) (packed 0 F) (packed-distinct 0 F (omega arith))
-  where
-    no-lt : (x y : ℕ) → (T (ltb x y) → ⊥) → x ≢ y → y < x
-    no-lt x y n d = go (decLt y x)
-      where
-        go : Dec (y < x) → y < x
-        go (yes a) = a
-        go (no a) = absurd (n (lt→ltb x y (omega arith)))
+increasing-keys F h = increasing-sorted (packed 0 F) (packed-distinct 0 F (omega arith))
 
 rising-of : (l : List ℕ) → Increasing (λ x y. x < y) l → Rising l
 rising-of [] s i j a b = absurd (omega arith)

@@ -2,10 +2,10 @@
 use mathlib.Core.Bool.{Bool, true, false, cond}
 use mathlib.Core.List.{List, [], _∷_, map}
 use mathlib.Core.Path.{_≡_}
-use Prim.Native.Nat.{ℕ, zero, suc, _+_, _-_, _*_, _%_, _<_, _≤_}
+use Prim.Native.Nat.{ℕ, zero, suc, _+_, _-_, _*_, _/_, _%_, _<_, _≤_}
 use lib.Dec.{eqb, ltb}
 use lib.ListN.{length, getD, drop}
-use Rattle.lists.specs.Members.{filter, sort, numbers}
+use Rattle.lists.specs.Members.{Increasing, filter, sort, numbers}
 use Rattle.board.specs.declared.Row.{Row}
 use Rattle.paths.specs.Forest.{memb}
 use Rattle.paths.specs.Siblings.{keyBefore}
@@ -13,10 +13,6 @@ use Rattle.paths.specs.Rows.{num, par}
 use Rattle.paths.specs.Nodes.{sorted}
 
 -- ---- the sort
-
--- whether a merge of a's first h with the rest takes from the left, at i of the left and j of the right: 1 or 0
-unfoldable pub leftFirst : List ℕ → ℕ → ℕ → ℕ → ℕ
-leftFirst a h i j = cond (ltb i h) (cond (ltb j (length a)) (cond (ltb (getD a i 0) (getD a j 0)) 1 0) 1) 0
 
 -- b tells whether there is a number at j that is not above x
 pub record NotAbove (a : List ℕ) (j x : ℕ) (b : Bool) : Type 0 where
@@ -33,6 +29,18 @@ packed i (x ∷ l) = (x * 1024 + i) ∷ packed (suc i) l
 -- the keys of the numbers F, sorted
 unfoldable pub keysOf : List ℕ → List ℕ
 keysOf F = sort ltb (packed 0 F)
+
+-- the digit number d of a key's number, of base 256
+unfoldable pub digitOf : ℕ → ℕ → ℕ
+digitOf d k = cond (eqb d 0) (k / 1024 % 256) (cond (eqb d 1) (k / 262144 % 256) (cond (eqb d 2) (k / 67108864 % 256) (k / 17179869184 % 256)))
+
+-- keys in the order of their places, each below 2^42
+abbrev pub Placed : List ℕ → Type 0
+Placed K = Increasing (λ x y. x % 1024 < y % 1024) K × ((j : ℕ) → j < length K → getD K j 0 < 4398046511104)
+
+-- b tells that all numbers are below v
+abbrev pub AllBelow : List ℕ → ℕ → Bool → Type 0
+AllBelow K v b = b ≡ true → (j : ℕ) → j < length K → getD K j 0 < v
 
 -- a key without its place
 unfoldable pub baseOf : ℕ → ℕ
