@@ -5,7 +5,9 @@
 //! many as it is told.
 #![forbid(unsafe_code)]
 
+pub mod builds;
 pub mod edits;
+pub mod fast;
 pub mod navigation;
 pub mod tally;
 

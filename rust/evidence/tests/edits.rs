@@ -7,7 +7,7 @@ use generate::{Random, HISTORIES};
 fn histories() {
     let mut random = Random::announced("histories", 41);
     let mut tally = Tally::new();
-    for _ in 0..60 {
+    for _ in 0..25 {
         for kind in HISTORIES {
             edits::histories(&mut random, kind, &mut tally);
         }
@@ -23,7 +23,7 @@ fn histories() {
 fn boards_that_no_history_makes() {
     let mut random = Random::announced("boards", 42);
     let mut tally = Tally::new();
-    for _ in 0..300 {
+    for _ in 0..100 {
         edits::boards(&mut random, &mut tally);
     }
     println!("{tally}");

@@ -7,7 +7,7 @@ use generate::Random;
 fn navigation_on_any_slices() {
     let mut random = Random::announced("navigation", 51);
     let mut tally = Tally::new();
-    for _ in 0..30_000 {
+    for _ in 0..20_000 {
         navigation::calls(&mut random, &mut tally);
     }
     println!("{tally}");

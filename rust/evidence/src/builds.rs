@@ -1,0 +1,120 @@
+//! Builds by the fast Rust that the library is measured against, and the library's navigation of what they leave.
+
+use crate::edits::board;
+use crate::tally::Tally;
+use crate::{fast, navigation};
+use flowpewter::sys;
+use generate::builds::{large_case, start_of};
+use generate::{
+    build_case, holding, rows, unsound_boards, BuildCase, NavigationCase, Random, SHAPES,
+};
+use reference::{build_board, Built};
+
+/// One build by the reference and by the fast Rust. Answers the case with its slices as they are afterwards.
+pub fn compare(
+    reference: &reference::Board,
+    case: &BuildCase,
+    tally: &mut Tally,
+) -> (Built, BuildCase) {
+    let mut after = case.clone();
+    let (code, depth) = (case.code, case.depth);
+    let start = start_of(&case.start);
+    let expected = build_board(reference, code, depth, start, &mut after.index, &mut after.totals);
+    tally.note("build", expected.refusal);
+
+    let library = board(reference);
+    let list = case.start.as_deref();
+    let (mut index, mut totals) = (case.index.clone(), case.totals.clone());
+    let built = fast::build(&library, code, depth, list, &mut index, &mut totals);
+    same(case, expected, &after, (built.refusal, built.nodes, built.left), &index, &totals);
+    (expected, after)
+}
+
+fn same(
+    case: &BuildCase,
+    expected: Built,
+    after: &BuildCase,
+    answer: (u32, u32, u32),
+    index: &[u32],
+    totals: &[i64],
+) {
+    let what = || format!("{:?} {:?} {:?} {:?}", case.code, case.depth, case.start, case.rows);
+    assert_eq!(answer, (expected.refusal, expected.nodes, expected.left), "{}", what());
+    assert!(index == after.index, "another index: {}", what());
+    assert!(totals == after.totals, "other totals: {}", what());
+}
+
+/// One build of generated rows, and every navigation call on what it leaves.
+pub fn cases(random: &mut Random, tally: &mut Tally) {
+    let case = build_case(random);
+    let reference = holding(random, &case.rows);
+    let (built, after) = compare(&reference, &case, tally);
+    if built.refusal != 0 {
+        return;
+    }
+    assert!(sys::index_check(&after.index));
+    for _ in 0..2 {
+        let rank = random.between(1, built.nodes.max(1) as usize) as u32;
+        let length = random.between(0, built.nodes as usize);
+        let case = NavigationCase {
+            index: after.index.clone(),
+            totals: after.totals.clone(),
+            rank,
+            lower: random.limit(),
+            upper: random.limit(),
+            list: random.noise(length),
+        };
+        navigation::compare(&case, tally);
+    }
+}
+
+/// Rows of one shape under every option code and some above, by both start rules.
+pub fn codes(random: &mut Random, tally: &mut Tally) {
+    let shape = random.pick(&SHAPES);
+    let size = random.between(1, 16);
+    let rows = rows(random, shape, size);
+    let reference = holding(random, &rows);
+    let list = Some(vec![random.pick(&rows).numeral, random.pick(&rows).numeral]);
+    for start in [None, list] {
+        for code in (0..27).chain([u32::MAX]) {
+            let index = random.noise(8 + 6 * 2_000);
+            let totals = random.wide_noise(2_001);
+            let (rows, start) = (rows.clone(), start.clone());
+            let case = BuildCase { shape, rows, code, depth: None, start, index, totals };
+            let (built, _) = compare(&reference, &case, tally);
+            if built.refusal == 0 {
+                tally.note(CODES[code as usize], 0);
+            }
+        }
+    }
+}
+
+/// Names under which accepted builds are counted by code.
+pub const CODES: [&str; 24] = [
+    "code 00", "code 01", "code 02", "code 03", "code 04", "code 05", "code 06", "code 07",
+    "code 08", "code 09", "code 10", "code 11", "code 12", "code 13", "code 14", "code 15",
+    "code 16", "code 17", "code 18", "code 19", "code 20", "code 21", "code 22", "code 23",
+];
+
+/// Builds on boards that aren't sound.
+pub fn unsound(random: &mut Random, tally: &mut Tally) {
+    for (_, reference) in unsound_boards(random) {
+        let mut case = build_case(random);
+        case.rows.clear();
+        let (built, _) = compare(&reference, &case, tally);
+        assert_eq!(built.refusal, 1);
+    }
+}
+
+/// A build at the limit of nodes.
+pub fn limits(random: &mut Random, nodes: usize, tally: &mut Tally) {
+    let case = large_case(random, nodes);
+    let reference = holding(random, &case.rows);
+    let (built, after) = compare(&reference, &case, tally);
+    if nodes > 65_535 {
+        assert_eq!(built.refusal, 9);
+    } else if built.refusal == 0 {
+        assert_eq!(built.nodes as usize, nodes);
+        assert!(sys::index_check(&after.index));
+    }
+}

@@ -1,0 +1,476 @@
+//! The same jobs in plain Rust, written for speed: what the library is measured against.
+//!
+//! Links and an explicit stack: rows of one numeral are a class, the children of a class are a range of the rows in
+//! sibling order, and a mark per class tells whether it stands on the path. Nothing is allocated.
+
+use flowpewter::sys::{Edited, Listed};
+use flowpewter::{Board, Entry, Row, BODY, CONTENTS, MAX_KEPT, MAX_NODES, MAX_ROWS};
+
+/// What a build answers.
+#[derive(Clone, Copy, Debug, PartialEq, Eq)]
+pub struct Built {
+    pub refusal: u32,
+    pub nodes: u32,
+    pub left: u32,
+}
+
+/// Stands for no class.
+const NONE: u16 = u16::MAX;
+
+fn can_undo(entry: &Entry, count: usize) -> bool {
+    match entry.kind {
+        0 => count > 0,
+        1 => entry.row.numeral != 0 && count < MAX_ROWS && entry.at <= count,
+        2 => entry.row.numeral != 0 && entry.at < count,
+        _ => false,
+    }
+}
+
+pub fn sound(board: &Board) -> bool {
+    board.count <= MAX_ROWS
+        && board.kept <= MAX_KEPT
+        && board.held().iter().all(|row| row.numeral != 0)
+        && (board.kept == 0 || can_undo(&board.journal[board.kept - 1], board.count))
+}
+
+fn note(board: &mut Board, entry: Entry) {
+    if board.kept == MAX_KEPT {
+        board.journal.copy_within(1.., 0);
+        board.kept -= 1;
+    }
+    board.journal[board.kept] = entry;
+    board.kept += 1;
+}
+
+/// By value, as the library has it.
+#[inline(never)]
+pub fn add(mut board: Board, row: Row) -> Edited {
+    let refusal = add_in_place(&mut board, row);
+    Edited { board, refusal }
+}
+
+/// In the caller's storage.
+#[inline(never)]
+pub fn add_in_place(board: &mut Board, row: Row) -> u32 {
+    if !sound(board) {
+        return 1;
+    }
+    if row.numeral == 0 {
+        return 2;
+    }
+    if board.count == MAX_ROWS {
+        return 3;
+    }
+    note(board, Entry { kind: 0, at: board.count, row });
+    board.rows[board.count] = row;
+    board.count += 1;
+    0
+}
+
+/// The rows of a board in classes, and the children of each class.
+struct Links {
+    class_of: [u16; MAX_ROWS],
+    /// All rows by parent class, in sibling order within each.
+    sorted: [u16; MAX_ROWS],
+    /// Where the children of a class begin in `sorted`; one more for the end.
+    begin: [u16; MAX_ROWS + 1],
+    /// Rows in sibling order.
+    siblings: [u16; MAX_ROWS],
+    /// Class of each row's parent.
+    parent_class: [u16; MAX_ROWS],
+}
+
+impl Links {
+    #[inline]
+    fn new(rows: &[Row]) -> (Links, [u32; MAX_ROWS], usize) {
+        let mut links = Links {
+            class_of: [0; MAX_ROWS],
+            sorted: [0; MAX_ROWS],
+            begin: [0; MAX_ROWS + 1],
+            siblings: [0; MAX_ROWS],
+            parent_class: [NONE; MAX_ROWS],
+        };
+        let mut numerals = [0; MAX_ROWS];
+        let mut keys = [0u64; MAX_ROWS];
+        let keys = &mut keys[..rows.len()];
+
+        for (place, row) in rows.iter().enumerate() {
+            keys[place] = (row.numeral as u64) << 10 | place as u64;
+        }
+        keys.sort_unstable();
+        let mut classes = 0;
+        for key in keys.iter() {
+            let (numeral, place) = ((key >> 10) as u32, (key & 1_023) as usize);
+            if classes == 0 || numerals[classes - 1] != numeral {
+                numerals[classes] = numeral;
+                classes += 1;
+            }
+            links.class_of[place] = classes as u16 - 1;
+        }
+
+        for (place, row) in rows.iter().enumerate() {
+            if let Ok(class) = numerals[..classes].binary_search(&row.parent) {
+                links.parent_class[place] = class as u16;
+                links.begin[class + 1] += 1;
+            }
+            keys[place] = (row.order as u64) << 10 | place as u64;
+        }
+        keys.sort_unstable();
+        for class in 0..classes {
+            links.begin[class + 1] += links.begin[class];
+        }
+        let mut next = links.begin;
+        for (at, key) in keys.iter().enumerate() {
+            let place = (key & 1_023) as usize;
+            links.siblings[at] = place as u16;
+            let class = links.parent_class[place];
+            if class != NONE {
+                links.sorted[next[class as usize] as usize] = place as u16;
+                next[class as usize] += 1;
+            }
+        }
+        (links, numerals, classes)
+    }
+}
+
+/// A level of the path that is being walked.
+#[derive(Clone, Copy, Default)]
+struct Level {
+    /// Next child, and the end of the children, in `sorted`.
+    next: u16,
+    end: u16,
+    class: u16,
+    rank: u32,
+}
+
+struct Walk<'a> {
+    rows: &'a [Row],
+    links: &'a Links,
+    bodies: &'a mut [u32],
+    totals: &'a mut [i64],
+    capacity: usize,
+    count: usize,
+    check: u32,
+    total: i64,
+    closing: bool,
+    marks: [bool; MAX_ROWS],
+    reached: [bool; MAX_ROWS],
+    shared: [u32; MAX_ROWS],
+}
+
+impl Walk<'_> {
+    /// Writes all words of a node but its size. None when there is no room.
+    #[inline(always)]
+    fn write(&mut self, place: usize, parent: u32, root: u32, last: u32) -> Option<u32> {
+        if self.count == self.capacity {
+            return None;
+        }
+        let row = &self.rows[place];
+        let at = BODY * self.count;
+        self.count += 1;
+        let rank = self.count as u32;
+        let root = if root == 0 { rank } else { root };
+        let body = &mut self.bodies[at..at + BODY];
+        body[0] = row.numeral;
+        body[1] = place as u32 + 1;
+        body[2] = 1;
+        body[3] = parent;
+        body[4] = root;
+        body[5] = last;
+        self.check = self
+            .check
+            .wrapping_add(row.numeral)
+            .wrapping_add(place as u32 + 1)
+            .wrapping_add(parent)
+            .wrapping_add(root)
+            .wrapping_add(last);
+        self.total += row.minutes as i64;
+        self.totals[self.count] = self.total;
+        self.shared[self.links.class_of[place] as usize] += 1;
+        Some(rank)
+    }
+
+    #[inline(always)]
+    fn set_size(&mut self, rank: u32) {
+        let size = self.count as u32 + 1 - rank;
+        self.bodies[BODY * (rank as usize - 1) + 2] = size;
+        self.check = self.check.wrapping_add(size);
+    }
+
+    /// All paths from one first row. `base` is the level above, `within` the rows that paths may have (all if none).
+    fn tree<const ORPHAN: bool>(
+        &mut self,
+        first: usize,
+        parent: u32,
+        root: u32,
+        base: u32,
+        limit: usize,
+        within: &[bool; MAX_ROWS],
+        stack: &mut [Level; MAX_ROWS + 1],
+    ) -> Option<()> {
+        let flag = if ORPHAN { 1 << 31 } else { 0 };
+        let rank = self.write(first, parent, root, (base + 1) | flag)?;
+        let root = if root == 0 { rank } else { root };
+        self.reached[first] = true;
+        let class = self.links.class_of[first];
+        self.marks[class as usize] = true;
+        stack[0] = self.level(class, rank, limit > 1);
+        let mut depth = 1;
+        while depth > 0 {
+            let top = &mut stack[depth - 1];
+            if top.next == top.end {
+                let (rank, class) = (top.rank, top.class);
+                self.marks[class as usize] = false;
+                self.set_size(rank);
+                depth -= 1;
+                continue;
+            }
+            let place = self.links.sorted[top.next as usize] as usize;
+            top.next += 1;
+            let above = top.rank;
+            if ORPHAN && !within[place] {
+                continue;
+            }
+            self.reached[place] = true;
+            let class = self.links.class_of[place];
+            let closing = self.marks[class as usize];
+            let word = (base + 1 + depth as u32) | flag | (closing as u32) << 30;
+            let rank = self.write(place, above, root, word)?;
+            if closing {
+                self.closing = true;
+                self.check = self.check.wrapping_add(1);
+                continue;
+            }
+            depth += 1;
+            let begins = self.links.begin[class as usize];
+            if depth >= limit || begins == self.links.begin[class as usize + 1] {
+                self.check = self.check.wrapping_add(1);
+                depth -= 1;
+                continue;
+            }
+            self.marks[class as usize] = true;
+            stack[depth - 1] = self.level(class, rank, true);
+        }
+        Some(())
+    }
+
+    #[inline(always)]
+    fn level(&self, class: u16, rank: u32, open: bool) -> Level {
+        let next = self.links.begin[class as usize];
+        let end = if open { self.links.begin[class as usize + 1] } else { next };
+        Level { next, end, class, rank }
+    }
+}
+
+fn refuse(refusal: u32, index: &mut [u32], totals: &mut [i64]) -> Built {
+    index.fill(0);
+    totals.fill(0);
+    Built { refusal, nodes: 0, left: 0 }
+}
+
+/// The whole build, refusals in order. `start` is none for parent 0.
+#[inline(never)]
+pub fn build(
+    board: &Board,
+    code: u32,
+    depth: Option<i32>,
+    start: Option<&[u32]>,
+    index: &mut [u32],
+    totals: &mut [i64],
+) -> Built {
+    match attempt(board, code, depth, start, index, totals) {
+        Ok(built) => built,
+        Err(refusal) => refuse(refusal, index, totals),
+    }
+}
+
+fn attempt(
+    board: &Board,
+    code: u32,
+    depth: Option<i32>,
+    start: Option<&[u32]>,
+    index: &mut [u32],
+    totals: &mut [i64],
+) -> Result<Built, u32> {
+    if !sound(board) {
+        return Err(1);
+    }
+    if code > 23 {
+        return Err(6);
+    }
+    let (orphan, multi, cycle) = (code % 4, code / 4 % 3, code / 12);
+    if depth.is_some() && orphan != 0 {
+        return Err(7);
+    }
+    let rows = board.held();
+    let (links, numerals, classes) = Links::new(rows);
+
+    let mut starts = [false; MAX_ROWS];
+    match start {
+        None => rows.iter().zip(&mut starts).for_each(|(row, start)| *start = row.parent == 0),
+        Some(list) => {
+            let mut listed = [false; MAX_ROWS];
+            for numeral in list {
+                if let Ok(class) = numerals[..classes].binary_search(numeral) {
+                    listed[class] = true;
+                }
+            }
+            for (place, start) in starts[..rows.len()].iter_mut().enumerate() {
+                *start = listed[links.class_of[place] as usize];
+            }
+        }
+    }
+    let siblings = &links.siblings[..rows.len()];
+    let last_start = siblings.iter().rev().find(|place| starts[**place as usize]);
+    if orphan == 2 && last_start.is_none() && links.parent_class[..rows.len()].contains(&NONE) {
+        return Err(8);
+    }
+    if index.len() < CONTENTS || totals.is_empty() {
+        return Err(9);
+    }
+    let capacity = MAX_NODES.min((index.len() - CONTENTS) / BODY).min(totals.len() - 1);
+    let limit = match depth {
+        None => MAX_ROWS + 1,
+        Some(depth) if depth < 0 => 0,
+        Some(depth) => (depth as usize + 1).min(MAX_ROWS + 1),
+    };
+
+    let (contents, bodies) = index.split_at_mut(CONTENTS);
+    totals[0] = 0;
+    let mut walk = Walk {
+        rows,
+        links: &links,
+        bodies,
+        totals,
+        capacity,
+        count: 0,
+        check: 0,
+        total: 0,
+        closing: false,
+        marks: [false; MAX_ROWS],
+        reached: [false; MAX_ROWS],
+        shared: [0; MAX_ROWS],
+    };
+    let mut stack = [Level::default(); MAX_ROWS + 1];
+    let mut last_root = 0;
+    if limit > 0 {
+        for &place in siblings {
+            let place = place as usize;
+            if starts[place] {
+                last_root = walk.count as u32 + 1;
+                walk.tree::<false>(place, 0, 0, 0, limit, &starts, &mut stack).ok_or(9u32)?;
+            }
+        }
+    }
+    let unreached = walk.reached[..rows.len()].iter().any(|reached| !reached);
+    if unreached && orphan >= 2 {
+        let mut within = [false; MAX_ROWS];
+        for (within, reached) in within[..rows.len()].iter_mut().zip(&walk.reached) {
+            *within = !reached;
+        }
+        let adopter = if orphan == 2 { last_root } else { 0 };
+        let before = walk.count;
+        for &place in siblings {
+            let place = place as usize;
+            if within[place] && links.parent_class[place] == NONE {
+                let base = (orphan == 2) as u32;
+                walk.tree::<true>(place, adopter, adopter, base, MAX_ROWS + 1, &within, &mut stack)
+                    .ok_or(9u32)?;
+            }
+        }
+        if adopter != 0 {
+            let added = (walk.count - before) as u32;
+            walk.bodies[BODY * (adopter as usize - 1) + 2] += added;
+            walk.check = walk.check.wrapping_add(added);
+        }
+    }
+
+    if cycle == 1 && walk.closing {
+        return Err(10);
+    }
+    let shares = |body: &[u32]| {
+        let class = links.class_of[body[1] as usize - 1];
+        walk.shared[class as usize] > 1 && (multi == 2 || body[2] > 1)
+    };
+    if multi != 0 && walk.bodies[..BODY * walk.count].chunks_exact(BODY).any(shares) {
+        return Err(11);
+    }
+    if orphan == 1 && unreached {
+        return Err(12);
+    }
+    let left = walk.reached[..rows.len()].iter().filter(|reached| !**reached).count();
+    let (nodes, check) = (walk.count as u32, walk.check);
+    contents.copy_from_slice(&[nodes, 8, 6, check, 0, 0, 0, 0]);
+    Ok(Built { refusal: 0, nodes, left: left as u32 })
+}
+
+fn contents(index: &[u32]) -> Option<(usize, &[u32])> {
+    if index.len() < CONTENTS || index[1] != 8 || index[2] != 6 || index[0] as usize > MAX_NODES {
+        return None;
+    }
+    let n = index[0] as usize;
+    index.get(CONTENTS..CONTENTS + BODY * n).map(|bodies| (n, bodies))
+}
+
+#[inline(never)]
+pub fn descendants(index: &[u32], rank: u32, lo: i32, hi: i32, out: &mut [u32]) -> Listed {
+    let refused = |refusal| Listed { refusal, len: 0 };
+    let Some((n, bodies)) = contents(index) else { return refused(13) };
+    let first = rank as usize;
+    if first == 0 || first > n {
+        return refused(14);
+    }
+    let size = bodies[BODY * (first - 1) + 2] as usize;
+    if size == 0 || first + size - 1 > n {
+        return refused(15);
+    }
+    let span = &bodies[BODY * (first - 1)..BODY * (first + size - 1)];
+    let base = (span[5] & 0xffff) as i64;
+    let (lo, hi) = (lo as i64 + base, hi as i64 + base);
+    let keeps = |body: &[u32]| (lo..=hi).contains(&((body[5] & 0xffff) as i64));
+    let len = span.chunks_exact(BODY).filter(|body| keeps(body)).count();
+    if len > out.len() {
+        return refused(16);
+    }
+    let mut places = out.iter_mut();
+    for (number, body) in span.chunks_exact(BODY).enumerate() {
+        if keeps(body) {
+            *places.next().unwrap() = rank + number as u32;
+        }
+    }
+    Listed { refusal: 0, len }
+}
+
+#[inline(never)]
+pub fn index_check(index: &[u32]) -> bool {
+    let Some((n, bodies)) = contents(index) else { return false };
+    if index[4..8] != [0; 4] {
+        return false;
+    }
+    if bodies.iter().fold(0u32, |sum, word| sum.wrapping_add(*word)) != index[3] {
+        return false;
+    }
+    let mut rank = 0usize;
+    bodies.chunks_exact(BODY).all(|body| {
+        rank += 1;
+        let end = rank as u64 + body[2] as u64 - 1;
+        if body[2] == 0 || body[5] & 0x3fff_0000 != 0 {
+            return false;
+        }
+        // The innermost open interval: the rank before, or what it hangs from.
+        let mut above = rank - 1;
+        while above > 0 && above as u64 + (bodies[BODY * (above - 1) + 2] as u64) <= rank as u64 {
+            above = bodies[BODY * (above - 1) + 3] as usize;
+        }
+        if body[3] as usize != above {
+            return false;
+        }
+        if above == 0 {
+            return end <= n as u64 && body[4] as usize == rank && body[5] & 0xffff == 1;
+        }
+        let parent = &bodies[BODY * (above - 1)..BODY * above];
+        end < above as u64 + parent[2] as u64
+            && body[4] == parent[4]
+            && body[5] & 0xffff == (parent[5] & 0xffff) + 1
+    })
+}

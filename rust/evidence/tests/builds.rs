@@ -1,0 +1,50 @@
+//! The fast Rust builds against the reference, and the library on what they leave.
+
+use evidence::builds::{self, CODES};
+use evidence::Tally;
+use generate::Random;
+
+#[test]
+fn builds_of_generated_rows() {
+    let mut random = Random::announced("builds", 61);
+    let mut tally = Tally::new();
+    for _ in 0..3_000 {
+        builds::cases(&mut random, &mut tally);
+    }
+    println!("{tally}");
+    tally.expect("build", &[0, 6, 7, 8, 9, 10, 11, 12], 30);
+}
+
+#[test]
+fn every_code() {
+    let mut random = Random::announced("codes", 62);
+    let mut tally = Tally::new();
+    for _ in 0..80 {
+        builds::codes(&mut random, &mut tally);
+    }
+    println!("{tally}");
+    for code in CODES {
+        tally.expect(code, &[0], 5);
+    }
+}
+
+#[test]
+fn unsound_boards() {
+    let mut random = Random::announced("unsound boards", 63);
+    let mut tally = Tally::new();
+    for _ in 0..30 {
+        builds::unsound(&mut random, &mut tally);
+    }
+    println!("{tally}");
+    tally.expect("build", &[1], 300);
+}
+
+#[test]
+fn the_limit_of_nodes() {
+    let mut random = Random::announced("limit of nodes", 64);
+    let mut tally = Tally::new();
+    for nodes in [65_534, 65_535, 65_536] {
+        builds::limits(&mut random, nodes, &mut tally);
+    }
+    println!("{tally}");
+}
