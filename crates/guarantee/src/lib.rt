@@ -1,11 +1,65 @@
-// What is promised of the whole product; the theorem is in specs/Guarantee.antt.
+// Demand 3 run whole: a list of calls from the empty board, a build on the board they leave, and the navigation on that build. The theorem is in specs/Guarantee.antt.
 ghost use mathlib.Core.Path.{_≡_};
-ghost use mathlib.Core.Bool.{not};
-ghost use lib.Dec.{eqb};
+ghost use lib.ListN.{length};
+ghost use Rattle.history.specs.Encoding.{replayedOf, refusalsOf};
+ghost use Rattle.navigate.specs.Navigate.{descendantsOut};
+ghost use Rattle.request.specs.Build.{startRule, indexAfter, totalsAfter};
+ghost use Rattle.guarantee.specs.Running.{wholeOf};
+use navigate::Listed;
+use options::Depth;
+use request::Built;
+use request::Start;
+use sums::Summed;
 
-// Whether a call was refused: its refusal number is not 0.
-pub fn is_refused(refusal: u32) -> bool
-    ensures { λ r. ⌜ r ≡ not (eqb refusal 0) ⌝ }
+// What `replay_all` answers: the replay's own refusal number (101 to 103), or 0, the number of calls, the board's earlier row lists and rows after them, and the answers of the build, the descendants and the subtree sum.
+#[repr(C)]
+pub struct Whole {
+    pub replayed: u32,
+    pub calls: usize,
+    pub kept: usize,
+    pub count: usize,
+    pub built: Built,
+    pub listed: Listed,
+    pub summed: Summed,
+}
+
+// Runs the calls that the words tell from the empty board, builds the board they leave, and asks for the descendants and the subtree sum of a rank. Where the replay is refused the board is empty.
+pub fn replay_all(
+    words: &[u32],
+    refusals: &mut [u32],
+    code: u32,
+    depth: Depth,
+    start: Start,
+    list: &[u32],
+    index: &mut [u32],
+    totals: &mut [i64],
+    rank: u32,
+    lower: i32,
+    upper: i32,
+    out: &mut [u32],
+) -> Whole
+    ensures { λ r. ⌜ r ≡ wholeOf (replayedOf (now (words .entry)) (length (now (refusals .entry)))) code depth (startRule start (now (list .entry))) (now (index .entry)) (now (totals .entry)) rank lower upper (now (out .entry)) ⌝ }
+    ensures { λ _. ⌜ now (refusals .exit) ≡ refusalsOf (now (words .entry)) (now (refusals .entry)) ⌝ }
+    ensures { λ _. ⌜ now (index .exit) ≡ indexAfter (replayedOf (now (words .entry)) (length (now (refusals .entry))) .board) code depth (startRule start (now (list .entry))) (now (index .entry)) (length (now (totals .entry))) ⌝ }
+    ensures { λ _. ⌜ now (totals .exit) ≡ totalsAfter (replayedOf (now (words .entry)) (length (now (refusals .entry))) .board) code depth (startRule start (now (list .entry))) (length (now (index .entry))) (now (totals .entry)) ⌝ }
+    ensures { λ _. ⌜ now (out .exit) ≡ descendantsOut (indexAfter (replayedOf (now (words .entry)) (length (now (refusals .entry))) .board) code depth (startRule start (now (list .entry))) (now (index .entry)) (length (now (totals .entry)))) rank lower upper (now (out .entry)) ⌝ }
 {
-    refusal != 0
+    let done = history::replay(words, refusals);
+    let replayed = done.refusal;
+    let calls = done.calls;
+    let board = done.board;
+    let kept = board.kept;
+    let count = board.count;
+    let built = build::build(board, code, depth, start, list, index, totals);
+    let listed = navigate::descendants(index, rank, lower, upper, out);
+    let summed = sums::subtree_sum(index, totals, rank);
+    Whole {
+        replayed,
+        calls,
+        kept,
+        count,
+        built,
+        listed,
+        summed,
+    }
 }

@@ -1,0 +1,58 @@
+-- What `replay_all` answers and leaves, and what demand 3 says of it. Definitions only. Assumes nothing.
+use mathlib.Core.Path.{_≡_}
+use mathlib.Core.Logic.{_≢_}
+use mathlib.Core.Bool.{Bool}
+use mathlib.Core.List.{List}
+use Prim.Native.Nat.{ℕ}
+use lib.IntN.{ℤ, pos}
+use lib.ListN.{length}
+use Rattle.lists.specs.Members.{_∈_}
+use Rattle.lists.specs.Stores.{front}
+use Rattle.board.specs.declared.Row.{Row}
+use Rattle.history.specs.declared.Call.{Call}
+use Rattle.history.specs.declared.Replayed.{Replayed}
+use Rattle.history.specs.Machine.{answers, after, start}
+use Rattle.history.specs.Encoding.{replayedOf, refusalsOf}
+use Rattle.options.specs.declared.Depth.{Depth}
+use Rattle.navigate.specs.Navigate.{descendantsAnswer, descendantsOut}
+use Rattle.sums.specs.Sums.{subtreeAnswer}
+use Rattle.request.specs.declared.Start.{Start}
+use Rattle.request.specs.Build.{startRule, builtOf, indexAfter, totalsAfter}
+use Rattle.guarantee.specs.declared.Whole.{Whole}
+use Rattle.guarantee.specs.Guarantee.{Fits, Build, Descendants, Sum}
+
+-- the answers of a build on the board that a replay left, and of the navigation on what that build left
+abbrev pub wholeOf : Replayed → ℕ → Depth → (Row → Bool) → List ℕ → List ℤ → ℕ → ℤ → ℤ → List ℕ → Whole
+wholeOf done code depth starts index totals rank lower upper out =
+    let left : List ℕ = indexAfter (done .board) code depth starts index (length totals) in
+    record {
+      replayed = done .refusal;
+      calls = done .calls;
+      kept = done .board .kept;
+      count = done .board .count;
+      built = builtOf (done .board) code depth starts (length index) (length totals);
+      listed = descendantsAnswer left rank lower upper out;
+      summed = subtreeAnswer left (totalsAfter (done .board) code depth starts (length index) totals) rank;
+    }
+
+-- `answer` and the five lent slices afterwards are those that the contract of `replay_all` gives
+pub record Runs (words refusals : List ℕ) (code : ℕ) (depth : Depth) (rule : Start) (list index : List ℕ) (totals : List ℤ) (rank : ℕ) (lower upper : ℤ) (out : List ℕ)
+    (answer : Whole) (refusals' index' : List ℕ) (totals' : List ℤ) (out' : List ℕ) : Type 0 where
+  pub whole : answer ≡ wholeOf (replayedOf words (length refusals)) code depth (startRule rule list) index totals rank lower upper out
+  pub refusals-left : refusals' ≡ refusalsOf words refusals
+  pub index-left : index' ≡ indexAfter (replayedOf words (length refusals) .board) code depth (startRule rule list) index (length totals)
+  pub totals-left : totals' ≡ totalsAfter (replayedOf words (length refusals) .board) code depth (startRule rule list) (length index) totals
+  pub out-left : out' ≡ descendantsOut (indexAfter (replayedOf words (length refusals) .board) code depth (startRule rule list) index (length totals)) rank lower upper out
+
+-- "Demand 3 is a single claim about the whole list of calls", of the calls cs that the words tell: `answer` and the slices afterwards are the plain machine's and the paper's
+pub record Demand3 (cs : List Call) (refusals : List ℕ) (code : ℕ) (depth : Depth) (rule : Start) (list index : List ℕ) (totals : List ℤ) (rank : ℕ) (lower upper : ℤ) (out : List ℕ)
+    (answer : Whole) (refusals' index' : List ℕ) (totals' : List ℤ) (out' : List ℕ) : Type 0 where
+  pub calls : answer .calls ≡ length cs
+  pub edits : refusals' ≡ front (answers start cs) refusals
+  pub kept : answer .kept ≡ length (after start cs .earlier)
+  pub count : answer .count ≡ length (after start cs .rows)
+  pub build : Build (after start cs .rows) ((c : Call) → c ∈ cs → Fits c) code depth (startRule rule list) (answer .built) index index' totals totals'
+  pub listed : answer .built .refusal ≡ 0 → Descendants (build .W) rank lower upper out (answer .listed) out'
+  pub unlisted : answer .built .refusal ≢ 0 → (answer .listed ≡ record { refusal = 13; len = 0 }) × (out' ≡ out)
+  pub summed : answer .built .refusal ≡ 0 → ((c : Call) → c ∈ cs → Fits c) → Sum (after start cs .rows) (build .W) rank (answer .summed)
+  pub unsummed : answer .built .refusal ≢ 0 → answer .summed ≡ record { refusal = 13; sum = pos 0 }
