@@ -3,9 +3,9 @@ use mathlib.Core.Path.{_≡_}
 use mathlib.Core.Logic.{_≢_}
 use mathlib.Core.Bool.{Bool}
 use mathlib.Core.List.{List}
-use Prim.Native.Nat.{ℕ}
+use Prim.Native.Nat.{ℕ, _<_}
 use lib.IntN.{ℤ, pos}
-use lib.ListN.{length}
+use lib.ListN.{length, getD}
 use Rattle.lists.specs.Members.{_∈_}
 use Rattle.lists.specs.Stores.{front}
 use Rattle.board.specs.declared.Row.{Row}
@@ -44,6 +44,10 @@ pub record Runs (words refusals : List ℕ) (code : ℕ) (depth : Depth) (rule :
   pub totals-left : totals' ≡ totalsAfter (replayedOf words (length refusals) .board) code depth (startRule rule list) (length index) totals
   pub out-left : out' ≡ descendantsOut (indexAfter (replayedOf words (length refusals) .board) code depth (startRule rule list) index (length totals)) rank lower upper out
 
+-- every number of the list is a u32, as in every slice that code can be handed
+abbrev pub AllWords : List ℕ → Type 0
+AllWords words = (k : ℕ) → getD words k 0 < 4294967296
+
 -- "Demand 3 is a single claim about the whole list of calls", of the calls cs that the words tell: `answer` and the slices afterwards are the plain machine's and the paper's
 pub record Demand3 (cs : List Call) (refusals : List ℕ) (code : ℕ) (depth : Depth) (rule : Start) (list index : List ℕ) (totals : List ℤ) (rank : ℕ) (lower upper : ℤ) (out : List ℕ)
     (answer : Whole) (refusals' index' : List ℕ) (totals' : List ℤ) (out' : List ℕ) : Type 0 where
@@ -54,5 +58,5 @@ pub record Demand3 (cs : List Call) (refusals : List ℕ) (code : ℕ) (depth : 
   pub build : Build (after start cs .rows) ((c : Call) → c ∈ cs → Fits c) code depth (startRule rule list) (answer .built) index index' totals totals'
   pub listed : answer .built .refusal ≡ 0 → Descendants (build .W) rank lower upper out (answer .listed) out'
   pub unlisted : answer .built .refusal ≢ 0 → (answer .listed ≡ record { refusal = 13; len = 0 }) × (out' ≡ out)
-  pub summed : answer .built .refusal ≡ 0 → ((c : Call) → c ∈ cs → Fits c) → Sum (after start cs .rows) (build .W) rank (answer .summed)
+  pub summed : answer .built .refusal ≡ 0 → Sum (after start cs .rows) (build .W) rank (answer .summed)
   pub unsummed : answer .built .refusal ≢ 0 → answer .summed ≡ record { refusal = 13; sum = pos 0 }

@@ -1,35 +1,42 @@
 -- `replay_all` gives what its contract says, and that is what demand 3 says of the calls that the words tell. Assumes nothing.
 use mathlib.Core.Path.{_≡_, refl, sym, ap, subst, _∙_}
 use mathlib.Core.Bool.{Bool, true, false, cond}
-use mathlib.Core.List.{List}
-use Prim.Native.Nat.{ℕ, _/_}
+use mathlib.Core.Logic.{_⊎_, inl, inr}
+use mathlib.Core.List.{List, [], _∷_}
+use Prim.Native.Nat.{ℕ, zero, suc, _+_, _*_, _/_, _<_}
 use native.Mathlib.Omega.{arith}
 use lib.Dec.{eqb}
-use lib.IntN.{ℤ}
+use lib.IntN.{ℤ, pos, negsuc}
+use lib.Signed.{mag}
+use mir.Syntax.{w32}
+use mir.Val.{toZ}
+use mir.Facts.{sfits-toZ}
 use lib.ListN.{length, length-take}
-use borrow.Author.Tests.{eq-eqb, eqb-true}
+use borrow.Author.Tests.{eq-eqb, eqb-true, le-ltb}
+use Rattle.lists.specs.Members.{_∈_, append-out}
 use Rattle.lists.specs.Stores.{front}
 use Rattle.board.specs.declared.Row.{Row}
 use Rattle.board.specs.Edits.{emptyOf}
 use Rattle.history.specs.declared.Call.{Call}
+use Rattle.history.specs.declared.Call.the-variants.{Add, Withdraw, Remark, Undo}
 use Rattle.history.specs.declared.Replayed.{Replayed}
 use Rattle.history.specs.Machine.{answers, after, start}
 use Rattle.history.specs.Calls.{final}
-use Rattle.history.specs.Encoding.{decoded, replayRefusal, replayedOf}
+use Rattle.history.specs.Encoding.{callOf, callAt, firstCalls, decoded, replayRefusal, replayedOf}
 use Rattle.history.specs.Simulation.{final-rows, final-kept, final-valid}
 use Rattle.history.specs.Replays.{length-first, replay-simulates}
 use Rattle.options.specs.declared.Depth.{Depth}
 use Rattle.navigate.specs.declared.Listed.{Listed}
 use Rattle.navigate.specs.Navigate.{descendantsAnswer, descendantsOut}
 use Rattle.sums.specs.declared.Summed.{Summed}
-use Rattle.sums.specs.Sums.{subtreeAnswer}
+use Rattle.sums.specs.Sums.{subtreeAnswer, leaves32}
 use Rattle.request.specs.declared.Start.{Start}
 use Rattle.request.specs.declared.Built.{Built}
 use Rattle.request.specs.Build.{startRule, builtOf, indexAfter, totalsAfter}
 use Rattle.guarantee.specs.declared.Whole.{Whole}
-use Rattle.guarantee.specs.Guarantee.{Guarantee}
+use Rattle.guarantee.specs.Guarantee.{Fits, Guarantee}
 use Rattle.guarantee.specs.GuaranteeLaws.{guarantee}
-use Rattle.guarantee.specs.Running.{wholeOf, Runs, Demand3}
+use Rattle.guarantee.specs.Running.{wholeOf, Runs, AllWords, Demand3}
 
 -- ---- the answers one after another
 
@@ -89,6 +96,36 @@ replayed-is words room e =
 final-count : (cs : List Call) → final emptyOf cs .count ≡ length (after start cs .rows)
 final-count cs = let v = final-valid cs in omega (arith, length-take (final emptyOf cs .count) (final emptyOf cs .rows), ap (λ (R : List Row). length R) (final-rows cs))
 
+-- ---- the minutes of the calls that words tell
+
+small-stays : (z : ℤ) → mag z < 2147483648 → leaves32 z ≡ false
+unfolding leaves32
+small-stays (pos n) h = rw (le-ltb 2147483647 n (omega arith))
+small-stays (negsuc n) h = le-ltb 2147483647 n (omega arith)
+
+word-stays : (n : ℕ) → n < 4294967296 → leaves32 (toZ w32 n) ≡ false
+word-stays n h = small-stays (toZ w32 n) (sfits-toZ {w = w32} {n = n} (record { fits = h }) .sfits)
+
+call-fits : (kind a b c d : ℕ) → b < 4294967296 → d < 4294967296 → Fits (callOf kind a b c d)
+unfolding callOf
+call-fits kind a b c d h k = go (eqb kind 0) (eqb kind 1) (eqb kind 2)
+  where
+    go : (t u v : Bool) → Fits (cond t (Add (record { parent = a; numeral = b; order = c; minutes = toZ w32 d })) (cond u (Withdraw a) (cond v (Remark a (toZ w32 b)) Undo)))
+    go true u v = word-stays d k
+    go false true v = tt
+    go false false true = word-stays b h
+    go false false false = tt
+
+first-fit : (words : List ℕ) → AllWords words → (n : ℕ) (c : Call) → c ∈ firstCalls words n → Fits c
+unfolding callAt
+first-fit words w zero c m = absurd m
+first-fit words w (suc n) c m = go (λ k. first-fit words w n c k) (append-out (firstCalls words n) (callAt words n ∷ []) c m)
+  where
+    go : (c ∈ firstCalls words n → Fits c) → (c ∈ firstCalls words n) ⊎ (c ∈ (callAt words n ∷ [])) → Fits c
+    go f (inl k) = f k
+    go f (inr (inl e)) = subst Fits (sym e) (call-fits _ _ _ _ _ (w (n * 5 + 2)) (w (n * 5 + 4)))
+    go f (inr (inr k)) = absurd k
+
 -- ---- demand 3
 
 module _ (words refusals : List ℕ) (code : ℕ) (depth : Depth) (rule : Start) (list index : List ℕ) (totals : List ℤ) (rank : ℕ) (lower upper : ℤ) (out : List ℕ) where
@@ -101,9 +138,9 @@ module _ (words refusals : List ℕ) (code : ℕ) (depth : Depth) (rule : Start)
   abbrev Claim : Whole → List ℕ → List ℕ → List ℤ → List ℕ → Type 0
   Claim = Demand3 cs refusals code depth rule list index totals rank lower upper out
 
-  claim : Guarantee cs → Claim (wholeOf (ranOf words) code depth (startRule rule list) index totals rank lower upper out)
+  claim : Guarantee cs → AllWords words → Claim (wholeOf (ranOf words) code depth (startRule rule list) index totals rank lower upper out)
       (front (answers start cs) refusals) indexLeft (totalsAfter (final emptyOf cs) code depth (startRule rule list) (length index) totals) (descendantsOut indexLeft rank lower upper out)
-  claim g =
+  claim g w =
       let b = g .build code depth rule list index totals in
       record {
         calls = sym (length-first words (length words / 5));
@@ -113,7 +150,7 @@ module _ (words refusals : List ℕ) (code : ℕ) (depth : Depth) (rule : Start)
         build = b;
         listed = λ z. b .descendants z rank lower upper out;
         unlisted = λ n. b .refused n .descendants rank lower upper out;
-        summed = λ z f. b .sums z f rank;
+        summed = λ z. b .sums z (first-fit words w (length words / 5)) rank;
         unsummed = λ n. b .refused n .sums rank;
       }
 
@@ -128,9 +165,9 @@ module _ (words refusals : List ℕ) (code : ℕ) (depth : Depth) (rule : Start)
   -- what `replay_all` answers and leaves, by its contract, where the words are some calls' and the replay isn't refused, is what demand 3 says of these calls
   pub replay-all-guaranteed : (answer : Whole) (refusals' index' : List ℕ) (totals' : List ℤ) (out' : List ℕ)
       → Runs words refusals code depth rule list index totals rank lower upper out answer refusals' index' totals' out'
-      → answer .replayed ≡ 0
+      → AllWords words → answer .replayed ≡ 0
       → Claim answer refusals' index' totals' out'
-  replay-all-guaranteed answer refusals' index' totals' out' r z =
+  replay-all-guaranteed answer refusals' index' totals' out' r w z =
       let s : Row → Bool = startRule rule list in
       let no = replayed-zero words (length refusals) (sym (ap (λ (w : Whole). w .replayed) (r .whole)) ∙ z) in
       let e = replayed-is words (length refusals) no in
@@ -139,4 +176,4 @@ module _ (words refusals : List ℕ) (code : ℕ) (depth : Depth) (rule : Start)
       let et = totals-full _ _ e code depth s index totals totals' (r .totals-left) in
       let eo = r .out-left ∙ ap (λ (d : Replayed). descendantsOut (indexAfter (d .board) code depth s index (length totals)) rank lower upper out) e in
       let er = r .refusals-left ∙ replay-simulates words refusals no .refusals in
-      moved _ _ _ _ _ _ _ _ _ _ ew er ei et eo (claim (guarantee cs))
+      moved _ _ _ _ _ _ _ _ _ _ ew er ei et eo (claim (guarantee cs) w)

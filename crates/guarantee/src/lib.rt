@@ -1,10 +1,10 @@
 // Demand 3 run whole: a list of calls from the empty board, a build on the board they leave, and the navigation on that build. The theorem is in specs/Guarantee.antt.
 ghost use mathlib.Core.Path.{_≡_};
 ghost use lib.ListN.{length};
-ghost use Rattle.history.specs.Encoding.{replayedOf, refusalsOf};
+ghost use Rattle.history.specs.Encoding.{decoded, replayedOf, refusalsOf};
 ghost use Rattle.navigate.specs.Navigate.{descendantsOut};
 ghost use Rattle.request.specs.Build.{startRule, indexAfter, totalsAfter};
-ghost use Rattle.guarantee.specs.Running.{wholeOf};
+ghost use Rattle.guarantee.specs.Running.{wholeOf, Demand3};
 use navigate::Listed;
 use options::Depth;
 use request::Built;
@@ -43,6 +43,7 @@ pub fn replay_all(
     ensures { λ _. ⌜ now (index .exit) ≡ indexAfter (replayedOf (now (words .entry)) (length (now (refusals .entry))) .board) code depth (startRule start (now (list .entry))) (now (index .entry)) (length (now (totals .entry))) ⌝ }
     ensures { λ _. ⌜ now (totals .exit) ≡ totalsAfter (replayedOf (now (words .entry)) (length (now (refusals .entry))) .board) code depth (startRule start (now (list .entry))) (length (now (index .entry))) (now (totals .entry)) ⌝ }
     ensures { λ _. ⌜ now (out .exit) ≡ descendantsOut (indexAfter (replayedOf (now (words .entry)) (length (now (refusals .entry))) .board) code depth (startRule start (now (list .entry))) (now (index .entry)) (length (now (totals .entry)))) rank lower upper (now (out .entry)) ⌝ }
+    ensures { λ r. ⌜ (r .replayed ≡ 0 → Demand3 (decoded (now (words .entry))) (now (refusals .entry)) code depth start (now (list .entry)) (now (index .entry)) (now (totals .entry)) rank lower upper (now (out .entry)) r (now (refusals .exit)) (now (index .exit)) (now (totals .exit)) (now (out .exit))) ⌝ }
 {
     let done = history::replay(words, refusals);
     let replayed = done.refusal;

@@ -2,7 +2,7 @@
 use denote.Ref.{now}
 use mir.Facts.{toZ-ofZ}
 use borrow.Author.Needs.{needs}
-use Rattle.guarantee.specs.RunningLaws.{index-full, totals-full, whole-full, out-full}
+use Rattle.guarantee.specs.RunningLaws.{replay-all-guaranteed, index-full, totals-full, whole-full, out-full}
 use Rattle.guarantee.proofs.replay_all.Statement.{statement}
 use Rattle.guarantee.proofs.replay_all.Tie as tie
 
@@ -41,19 +41,15 @@ returns c =
     let upper = toZ-ofZ (z .fits .upper) in
     let p = y .replay .ensures in
     let b = m .build .ensures in
-    let l = d .descendants .ensures in (
-      whole-full _ _ (p .0) (a .code) (a .depth) _ (now (a .index)) (now (a .totals)) (a .rank) (a .lower) (a .upper) _ _ (now (a .out)) _ lower upper _ _ _ _ (b .0) (b .1 .0) (b .1 .1) (l .0) (c .subtree-sum .ensures),
-      (
-        p .1,
-        (
-          index-full _ _ (p .0) (a .code) (a .depth) _ (now (a .index)) (now (a .totals)) _ (b .1 .0),
-          (
-            totals-full _ _ (p .0) (a .code) (a .depth) _ (now (a .index)) (now (a .totals)) _ (b .1 .1),
-            out-full _ _ (p .0) (a .code) (a .depth) _ (now (a .index)) (now (a .totals)) (a .rank) (a .lower) (a .upper) _ _ (now (a .out)) _ lower upper _ (b .1 .0) (l .1),
-          ),
-        ),
-      ),
-    )
+    let l = d .descendants .ensures in
+    let whole = whole-full _ _ (p .0) (a .code) (a .depth) _ (now (a .index)) (now (a .totals)) (a .rank) (a .lower) (a .upper) _ _ (now (a .out)) _ lower upper _ _ _ _ (b .0) (b .1 .0) (b .1 .1) (l .0) (c .subtree-sum .ensures) in
+    let index = index-full _ _ (p .0) (a .code) (a .depth) _ (now (a .index)) (now (a .totals)) _ (b .1 .0) in
+    let totals = totals-full _ _ (p .0) (a .code) (a .depth) _ (now (a .index)) (now (a .totals)) _ (b .1 .1) in
+    let out = out-full _ _ (p .0) (a .code) (a .depth) _ (now (a .index)) (now (a .totals)) (a .rank) (a .lower) (a .upper) _ _ (now (a .out)) _ lower upper _ (b .1 .0) (l .1) in
+    let demand =
+    replay-all-guaranteed (now (a .words)) (now (a .refusals)) (a .code) (a .depth) (a .start) (now (a .list)) (now (a .index)) (now (a .totals)) (a .rank) (a .lower) (a .upper) (now (a .out)) _ _ _ _ _
+    (record { whole = whole; refusals-left = p .1; index-left = index; totals-left = totals; out-left = out }) (λ k. y .before .before .before .before .before .before .shared-slice-known .given k .fits) in
+    (whole, (p .1, (index, (totals, (out, demand)))))
 
 pub replay-all-spec : {M : Type 1} → statement M
 replay-all-spec =
