@@ -357,8 +357,8 @@ fn attempt(
     let unreached = walk.reached[..rows.len()].iter().any(|reached| !reached);
     if unreached && orphan >= 2 {
         let mut within = [false; MAX_ROWS];
-        for place in 0..rows.len() {
-            within[place] = !walk.reached[place];
+        for (within, reached) in within[..rows.len()].iter_mut().zip(&walk.reached) {
+            *within = !reached;
         }
         let adopter = if orphan == 2 { last_root } else { 0 };
         let before = walk.count;
