@@ -9,7 +9,7 @@ use native.Mathlib.Decide.{ℕ-discrete, decLt}
 use borrow.Author.Tests.{eq-eqb, ne-eqb, lt-ltb, le-ltb, lt-leb, le-leb, ltb-true, ltb-false, leb-true, leb-false, eqb-true, eqb-false}
 use lib.Dec.{T, eqb, leb, ltb, eqb→eq}
 use lib.IntN.{ℤ, pos}
-use lib.ListN.{length, getD, take, replicate, length-map, length-replicate, getD-replicate}
+use lib.ListN.{List·getD-eq-default, length, getD, take, replicate, length-map, length-replicate, getD-replicate}
 use lib.Seq.{ext-getD, length-take-le}
 use Rattle.lists.specs.Members.{_∈_, getD-in, filter, filter-in, filter-out, numbers, numbers-in, numbers-out, map-in, totalsFrom}
 use Rattle.lists.specs.Stores.{front}
@@ -38,12 +38,14 @@ use Rattle.paths.specs.BodyLaws.{bodies-length, bodies-rows, bodies-numerals, t
 use Rattle.paths.specs.Bounds.{bodies-bounded}
 use Rattle.request.specs.declared.Built.{Built}
 use Rattle.request.specs.Build.{refusedBy, buildRefusal, builtOf, indexAfter, totalsAfter}
-use Rattle.walk.specs.Walk.{Walked, flagged}
+use Rattle.walk.specs.Walk.{Walked, Clear, flagged}
+use Rattle.prepare.specs.Prepared.{Prepared}
+use Rattle.options.specs.declared.Choice.{Choice}
 use Rattle.walk.specs.declared.Met.{Met}
 use Rattle.enumerate.specs.Enumerate.{Ready, StartFlags, topsAmong}
 use Rattle.enumerate.specs.OrphanLaws.{tops-rows, row-count, few}
 use Rattle.enumerate.specs.EnumerateLaws.{all-starts, flags-long, child-count, one-flagged, none-flagged}
-use Rattle.build.specs.Work.{capacityOf, lacksStart, answerOf, Ran, Attempted}
+use Rattle.build.specs.Work.{capacityOf, lacksStart, answerOf, AnyBoard, Ran, Attempted}
 
 -- ---- a refusal and its answer
 
@@ -377,3 +379,63 @@ attempt-as b code depth start index index′ totals totals′ q r e w = subst (�
 pub ran-rows : (j k : ℕ) (rows : List Row) (code : ℕ) (depth : Depth) (start : Row → Bool) (index index′ : List ℕ) (totals totals′ : List ℤ) (r : Built) → j ≡ k
     → Ran (take j rows) code depth start index index′ totals totals′ r → Ran (take k rows) code depth start index index′ totals totals′ r
 ran-rows j k rows code depth start index index′ totals totals′ r e w = subst (λ (i : ℕ). Ran (take i rows) code depth start index index′ totals totals′ r) e w
+
+-- ---- the rows as they are prepared
+
+module _ (R : List Row) (code : ℕ) (depth : Depth) (start : Row → Bool) (minutes : List ℤ) (row parent numeral child next class owner flags keys : List ℕ)
+    (prepared : Prepared R start minutes row parent numeral child next class owner flags keys) (numbered : (x : ℕ) → RowOf R x → num R x ≢ 0) where
+  pub ready-of : Ready R row parent numeral child next class owner keys
+  ready-of = record {
+      ordered = prepared .ordered;
+      child-is = prepared .links .child-is;
+      next-is = prepared .links .next-is;
+      class-is = prepared .links .class-is;
+      owner-is = prepared .links .owner-is;
+      keys-are = prepared .links .keys-are;
+      numbered = numbered;
+    }
+
+  pub board-of : AnyBoard row parent numeral child next class owner keys flags minutes
+  board-of = record { R = R; start = start; ready = ready-of; flags-are = prepared .flags-are; minutes-are = prepared .minutes-are }
+
+  module _ (choice : Choice) (choice-is : choice ≡ choiceOf code) (n : ℕ) (long : length row ≡ n) (reached : List ℕ) (clear : reached ≡ replicate n 0) (t : Bool) (test : t ≡ lacksStart (choice .orphan) flags row reached parent owner) where
+    pub eight-is : t ≡ refusal8 (orphanOf code) (tops R start depth) (starts R start)
+    eight-is =
+        test
+        ∙ lacks-start R start depth row parent numeral child next class owner keys flags ready-of (prepared .flags-are) (choice .orphan) reached (clear ∙ ap (λ (k : ℕ). replicate k 0) (sym long))
+        ∙ ap (λ (c : Choice). refusal8 (c .orphan) (tops R start depth) (starts R start)) choice-is
+
+    module _ (six : refusal6 code ≡ false) (seven : refusal7 (orphanOf code) depth ≡ false) (index index′ : List ℕ) (totals totals′ : List ℤ) (r : Built) where
+      ran-refused : (q : ℕ) → r ≡ refusedBy q → refusalOf R code depth start (length index) (length totals) ≡ q → (q ≡ 0 → ⊥) → Ran R code depth start index index′ totals totals′ r
+      ran-refused q e f z = record {
+          answer = e ∙ refused-answer R code depth start (length index) (length totals) q f z;
+          index-is = λ y. absurd (z (sym f ∙ y));
+          totals-are = λ y. absurd (z (sym f ∙ y));
+        }
+
+      pub run-eight : t ≡ true → r ≡ refusedBy 8 → Ran R code depth start index index′ totals totals′ r
+      run-eight hit e = ran-refused 8 e (by-eight R code depth start (length index) (length totals) six seven (sym eight-is ∙ hit)) (λ z. absurd (omega arith))
+
+      module _ (no : t ≡ false) where
+        eight : refusal8 (orphanOf code) (tops R start depth) (starts R start) ≡ false
+        eight = sym eight-is ∙ no
+
+        pub run-nine-index : length index < 8 → r ≡ refusedBy 9 → Ran R code depth start index index′ totals totals′ r
+        run-nine-index h e = ran-refused 9 e (by-nine R code depth start (length index) (length totals) six seven eight (short-index (length (bodies R start depth (orphanChoice (orphanOf code)))) (length index) (length totals) h)) (λ z. absurd (omega arith))
+
+        pub run-nine-totals : length totals < 1 → r ≡ refusedBy 9 → Ran R code depth start index index′ totals totals′ r
+        run-nine-totals h e = ran-refused 9 e (by-nine R code depth start (length index) (length totals) six seven eight (short-totals (length (bodies R start depth (orphanChoice (orphanOf code)))) (length index) (length totals) h)) (λ z. absurd (omega arith))
+
+pub orphan-low : (code : ℕ) (choice : Choice) → choice ≡ choiceOf code → choice .orphan ≤ 3
+orphan-low code choice e = omega (arith, ap (λ (c : Choice). c .orphan) e)
+
+pub depth-none : (code : ℕ) (choice : Choice) (depth : Depth) → choice ≡ choiceOf code → refusal7 (orphanOf code) depth ≡ false → 1 < choice .orphan → depth ≡ None
+depth-none code choice depth e s h = given-test depth (orphanOf code) s (subst (λ (c : Choice). 1 < c .orphan) e h)
+
+pub marks-none : (n : ℕ) (marks : List ℕ) → marks ≡ replicate n 0 → Clear marks
+unfolding Clear
+marks-none n marks e c = ap (λ (l : List ℕ). getD l c 0) e ∙ go (decLt c n)
+  where
+    go : Dec (c < n) → getD (replicate {A = ℕ} n 0) c 0 ≡ 0
+    go (yes h) = getD-replicate {A = ℕ} n c 0 0 h
+    go (no h) = List·getD-eq-default (replicate {A = ℕ} n 0) 0 {n = c} (omega (arith, length-replicate {A = ℕ} n 0))

@@ -101,6 +101,39 @@ fn lacks_start(
     orphans::last_flag(tops) < row.len()
 }
 
+// Enumerates the nodes and finishes the build of rows that are prepared. Where it is refused, both slices may hold anything.
+fn write_nodes(
+    choice: Choice,
+    depth: Depth,
+    cap: u32,
+    minutes: &[i32],
+    row: &[u32],
+    parent: &[u32],
+    numeral: &[u32],
+    numeral_keys: &[u64],
+    class: &[u32],
+    owner: &[u32],
+    child: &mut [u32],
+    next: &mut [u32],
+    flags: &mut [u32],
+    parent_keys: &mut [u64],
+    scratch: &mut [u64],
+    reached: &mut [u32],
+    masked: &mut [u32],
+    marks: &mut [u32],
+    kinds: &mut [u32],
+    counts: &mut [u32],
+    index: &mut [u32],
+    totals: &mut [i64],
+) -> Built
+    requires { ⌜ AnyBoard (now row) (now parent) (now numeral) (now child) (now next) (now class) (now owner) (now «numeral_keys») (now flags) (now minutes) ⌝ }
+    requires { ⌜ (choice .orphan ≤ 3) × (1 < choice .orphan → depth ≡ None) × (8 ≤ length (now index)) × (1 ≤ length (now totals)) × (cap ≡ capacityOf (length (now index)) (length (now totals))) ⌝ }
+    requires { ⌜ (length (now flags) ≡ length (now row)) × (length (now «parent_keys») ≡ length (now row)) × (length (now scratch) ≡ length (now row)) × Bench (length (now row)) (now reached) (now masked) (now marks) (now kinds) (now counts) ⌝ }
+    ensures { λ r. ⌜ ((R : List Row) (start : Row → Bool) (code : ℕ) → Ready R (now (row .entry)) (now (parent .entry)) (now (numeral .entry)) (now (child .entry)) (now (next .entry)) (now (class .entry)) (now (owner .entry)) (now («numeral_keys» .entry)) → StartFlags R start (now (row .entry)) (now (flags .entry)) → now (minutes .entry) ≡ map (λ (x : Row). x .minutes) R → choice ≡ choiceOf code → refusal6 code ≡ false → refusal7 (orphanOf code) depth ≡ false → refusal8 (orphanOf code) (tops R start depth) (starts R start) ≡ false → Ran R code depth start (now (index .entry)) (now (index .exit)) (now (totals .entry)) (now (totals .exit)) r) ⌝ }
+{
+    request::refused(9)
+}
+
 // The build of the first rows, as many as each slice has places. Where it is refused, both slices may hold anything.
 fn run(
     rows: [Row; 1024],
@@ -133,7 +166,19 @@ fn run(
     requires { ⌜ Bench (length (now row)) (now reached) (now masked) (now marks) (now kinds) (now counts) ⌝ }
     ensures { λ r. ⌜ Ran (take (length (now (row .entry))) rows) code depth (startRule start (now (list .entry))) (now (index .entry)) (now (index .exit)) (now (totals .entry)) (now (totals .exit)) r ⌝ }
 {
-    request::refused(9)
+    let choice = options::choices(code as usize);
+    prepare::prepare(rows, start, list, minutes, row, parent, numeral, child, next, class, owner, flags, parent_keys, numeral_keys, scratch);
+    if lacks_start(choice.orphan, flags, row, reached, parent, owner, masked) {
+        return request::refused(8);
+    }
+    if index.len() < 8 {
+        return request::refused(9);
+    }
+    if totals.len() < 1 {
+        return request::refused(9);
+    }
+    let cap = capacity(index.len(), totals.len());
+    write_nodes(choice, depth, cap, minutes, row, parent, numeral, numeral_keys, class, owner, child, next, flags, parent_keys, scratch, reached, masked, marks, kinds, counts, index, totals)
 }
 
 // The build of n rows, in working arrays of its own.

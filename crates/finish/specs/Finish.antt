@@ -1,18 +1,19 @@
 -- What is left to do once the bodies of all nodes stand in the index: refusals 10 to 12, the rows left over, the running totals. Assumes nothing: these are definitions.
 use mathlib.Core.Path.{_≡_}
 use mathlib.Core.Logic.{_↔_}
-use mathlib.Core.Bool.{Bool, cond, not, _&&_}
+use mathlib.Core.Bool.{cond, not, _&&_}
 use mathlib.Core.List.{List, map}
 use Prim.Native.Nat.{ℕ, _+_, _*_, _≤_, _<_}
 use lib.Dec.{eqb}
 use lib.IntN.{ℤ, pos}
-use lib.ListN.{length, getD, replicate}
+use lib.ListN.{length, getD}
 use lib.Seq.{sets}
 use Rattle.lists.specs.Members.{_∈_, filter, numbers, totalsFrom}
 use Rattle.lists.specs.Stores.{front}
 use Rattle.board.specs.declared.Row.{Row}
 use Rattle.image.specs.declared.Body.{Body}
 use Rattle.image.specs.Layout.{flat, checked, imageWords}
+use Rattle.image.specs.ImageLaws.{Holds}
 use Rattle.options.specs.declared.Choice.{Choice}
 use Rattle.paths.specs.Forest.{memb}
 use Rattle.paths.specs.Rows.{row as boardRow, num, RowOf}
@@ -48,6 +49,21 @@ pub record AnyNodes (row class : List ℕ) (minutes : List ℤ) (index : List �
   pub written : Written R bs before index met
   pub classes : Classes R row class
   pub minutes-are : minutes ≡ map (λ (r : Row). r .minutes) R
+
+-- the index begins with the image of n bodies of nodes over the rows R
+pub record Held (R : List Row) (bs : List Body) (index : List ℕ) (n : ℕ) : Type 0 where
+  pub count-is : n ≡ length bs
+  pub few : length bs ≤ 65535
+  pub holds : Holds index bs
+  pub row-of : (b : Body) → b ∈ bs → RowOf R (b .row)
+  pub numeral-of : (b : Body) → b ∈ bs → b .numeral ≡ num R (b .row)
+
+-- that of some rows
+pub record AnyHeld (row class index : List ℕ) (n : ℕ) : Type 0 where
+  pub R : List Row
+  pub bs : List Body
+  pub held : Held R bs index n
+  pub classes : Classes R row class
 
 -- "the number of rows that end no node"
 abbrev pub leftOver : List Row → List Body → ℕ

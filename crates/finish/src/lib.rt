@@ -1,14 +1,67 @@
 // What is left to do once the bodies of all nodes stand in the index: the table of contents, refusals 10 to 12, the rows left over, the running totals.
 ghost use mathlib.Core.Path.{_≡_};
+ghost use mathlib.Core.Bool.{not, _&&_};
 ghost use mathlib.Core.List.{List, map};
 ghost use Prim.Native.Nat.{ℕ, _+_, _*_, _≤_, _<_};
+ghost use lib.Dec.{eqb};
 ghost use lib.ListN.{length, replicate};
 ghost use Rattle.board.specs.declared.Row.{Row};
 ghost use Rattle.image.specs.declared.Body.{Body};
-ghost use Rattle.finish.specs.Finish.{Written, Classes, AnyNodes, Finished};
+ghost use Rattle.passes.specs.Passes.{anyClosing};
+ghost use Rattle.paths.specs.Refusals.{refusal11};
+ghost use Rattle.finish.specs.Finish.{Written, Classes, AnyNodes, Held, AnyHeld, Finished};
 use options::Choice;
 use request::Built;
 use walk::Met;
+
+// Whether a node closes and that is refused.
+fn is_closed(cycle: u32, index: &[u32], n: usize) -> bool
+    requires { ⌜ n ≤ 65535 ⌝ }
+    ensures { λ r. ⌜ r ≡ (eqb cycle 1 && anyClosing (now (index .entry)) n) ⌝ }
+{
+    if cycle != 1 {
+        return false;
+    }
+    passes::any_closing(index, n)
+}
+
+// Whether nodes share a numeral in a way that is refused.
+fn is_shared(
+    multi: u32,
+    index: &[u32],
+    n: usize,
+    row: &[u32],
+    class: &[u32],
+    kinds: &mut [u32],
+    counts: &mut [u32],
+) -> bool
+    requires { ⌜ AnyHeld (now row) (now class) (now index) n ⌝ }
+    requires { ⌜ (length (now kinds) ≡ length (now row)) × (now counts ≡ replicate (length (now row)) 0) ⌝ }
+    ensures { λ r. ⌜ ((R : List Row) (bs : List Body) → Held R bs (now (index .entry)) n → Classes R (now (row .entry)) (now (class .entry)) → r ≡ refusal11 multi bs) ⌝ }
+{
+    if multi == 0 {
+        return false;
+    }
+    if 2 < multi {
+        return false;
+    }
+    if n == 0 {
+        return false;
+    }
+    passes::scatter(row, class, kinds);
+    passes::count_kinds(index, n, kinds, counts);
+    passes::any_shared(index, n, kinds, counts, multi == 1)
+}
+
+// Whether rows are left over and that is refused.
+fn is_left(orphan: u32, left: u32) -> bool
+    ensures { λ r. ⌜ r ≡ (eqb orphan 1 && not (eqb left 0)) ⌝ }
+{
+    if orphan != 1 {
+        return false;
+    }
+    left != 0
+}
 
 // Finishes a build whose bodies are written. Where it is refused, the index and the totals may hold anything.
 pub fn finish(
@@ -37,10 +90,8 @@ pub fn finish(
     }
     passes::mark_rows(index, n, reached);
     let left = passes::count_clear(reached) as u32;
-    if choice.orphan == 1 {
-        if left != 0 {
-            return request::refused(12);
-        }
+    if is_left(choice.orphan, left) {
+        return request::refused(12);
     }
     passes::fill_totals(index, n, minutes, totals);
     Built {

@@ -1,0 +1,326 @@
+-- What the passes over an index that holds the image of bodies say of the bodies. Assumes nothing.
+use mathlib.Core.Path.{_≡_, refl, sym, ap, ap₂, subst, _∙_}
+use mathlib.Core.Logic.{_≢_}
+use mathlib.Core.Bool.{Bool, true, false, cond, not, _&&_, _||_}
+use mathlib.Core.List.{List, [], _∷_, map}
+use Prim.Native.Nat.{ℕ, zero, suc, _+_, _-_, _≤_, _<_}
+use native.Mathlib.Omega.{arith}
+use native.Mathlib.Decide.{decLt}
+use borrow.Author.Tests.{eq-eqb, ne-eqb, le-ltb}
+use lib.Dec.{eqb, ltb, eqb→eq}
+use lib.IntN.{ℤ, pos}
+use lib.ListN.{length, getD, replicate, length-map, length-replicate, List·getD-eq-default}
+use lib.Seq.{sets, length-sets, ext-getD}
+use Rattle.lists.specs.Members.{_∈_, filter, filter-map, filter-agree, filter-short, numbers, any, same-test, getD-in, place-of, Increasing, increasing-at, map-map, map-agree, totalsFrom, totals-map}
+use Rattle.lists.specs.Stores.{front, getD-mapped}
+use Rattle.lists.specs.Counting.{by-place, by-place-length}
+use Rattle.board.specs.declared.Row.{Row}
+use Rattle.image.specs.declared.Body.{Body}
+use Rattle.image.specs.Layout.{bit, rowAt, closingAt, bodyOf, flat, checked, contentsWords, imageWords}
+use Rattle.image.specs.ImageLaws.{Holds, holds-front, image-written, row-read, size-read, closing-read}
+use Rattle.options.specs.declared.Choice.{Choice}
+use Rattle.paths.specs.Forest.{memb}
+use Rattle.paths.specs.ForestLaws.{eq→eqb}
+use Rattle.paths.specs.Rows.{row as boardRow, noRow, num, RowOf}
+use Rattle.paths.specs.SiblingLaws.{sorted-is, sorted-distinct}
+use Rattle.paths.specs.Refusals.{shared, refusal10, refusal11}
+use Rattle.passes.specs.Passes.{Named, Places, ByRow, rowsTo, reachedFlags, anyClosing, kindAt, kindsTo, kindCounts, askedAt, sharesAt, anyShared, minutesAt, totalsTo}
+use Rattle.request.specs.declared.Built.{Built}
+use Rattle.request.specs.Build.{refusedBy}
+use Rattle.walk.specs.declared.Met.{Met}
+use Rattle.finish.specs.Finish.{Written, Classes, Held, leftOver, lateRefusal, lateAnswer, bodyMinutes, Finished}
+
+-- ---- rank by rank and body by body
+
+-- what is read at each rank is what the element of that rank says
+pub ranks-map : {A B : Type 0} (f : ℕ → B) (g : A → B) (l : List A) (n : ℕ) (d : A) → n ≡ length l → ((k : ℕ) → 1 ≤ k → k ≤ n → f k ≡ g (getD l (k - 1) d)) → map f (numbers 1 n) ≡ map g l
+ranks-map f g l n d c h =
+    ext-getD (g d) (map f (numbers 1 n)) (map g l) (by-place-length f 1 n ∙ c ∙ sym (length-map l g))
+    (λ i b.
+    let m : i < n = omega (arith, by-place-length f 1 n) in
+    let back : 1 + i - 1 ≡ i = omega arith in
+    by-place f 1 n i (g d) m ∙ h (1 + i) (omega arith) (omega arith) ∙ ap (λ (j : ℕ). g (getD l j d)) back ∙ sym (getD-mapped g l i d (g d) (omega (arith, c))))
+
+any-map : {A : Type 0} (f : A → Bool) (l : List A) → any (λ (b : Bool). b) (map f l) ≡ any f l
+any-map f [] = refl
+any-map f (x ∷ l) = ap (λ (b : Bool). f x || b) (any-map f l)
+
+pub ranks-any : {A : Type 0} (f : ℕ → Bool) (g : A → Bool) (l : List A) (n : ℕ) (d : A) → n ≡ length l → ((k : ℕ) → 1 ≤ k → k ≤ n → f k ≡ g (getD l (k - 1) d)) → any f (numbers 1 n) ≡ any g l
+ranks-any f g l n d c h = sym (any-map f (numbers 1 n)) ∙ ap (any (λ (b : Bool). b)) (ranks-map f g l n d c h) ∙ any-map g l
+
+-- how many elements of a map pass
+count-map : {A B : Type 0} (f : B → Bool) (g : A → B) (l : List A) → length (filter f (map g l)) ≡ length (filter (λ x. f (g x)) l)
+count-map f g l = ap length (filter-map f g l) ∙ length-map (filter (λ x. f (g x)) l) g
+
+bit-clear : (t : Bool) → eqb 0 (bit t) ≡ not t
+bit-clear true = refl
+bit-clear false = refl
+
+or-none : (t : Bool) → (t || false) ≡ t
+or-none true = refl
+or-none false = refl
+
+-- a choice that is not asked refuses nothing; one that is asked refuses by its test
+pub asked-no : (k j : ℕ) (b : Bool) → (k ≡ j → ⊥) → false ≡ (eqb k j && b)
+asked-no k j b n = sym (ap (λ (t : Bool). t && b) (ne-eqb k j n))
+
+pub asked-yes : (k j : ℕ) (b r : Bool) → k ≡ j → r ≡ b → r ≡ (eqb k j && b)
+asked-yes k j b r e q = q ∙ sym (ap (λ (t : Bool). t && b) (eq-eqb k j e))
+
+pub count-few : (l xs : List ℕ) (m x : ℕ) → l ≡ reachedFlags xs m → x ≡ length (filter (eqb 0) l) → m ≤ 1024 → x ≤ 1024
+unfolding reachedFlags
+count-few l xs m x f e h = omega (arith, e, filter-short (eqb 0) l, ap length f ∙ by-place-length (λ y. bit (memb y xs)) 1 m, h)
+
+pub minutes-long : (R : List Row) (minutes : List ℤ) → minutes ≡ map (λ (r : Row). r .minutes) R → length minutes ≡ length R
+minutes-long R minutes e = ap length e ∙ length-map R (λ (r : Row). r .minutes)
+
+-- ---- an index that holds the bodies
+
+module _ {R : List Row} {bs : List Body} {s : List ℕ} {n : ℕ} (h : Held R bs s n) where
+  at : ℕ → Body
+  at k = getD bs (k - 1) (bodyOf s 0)
+
+  at-in : (k : ℕ) → 1 ≤ k → k ≤ n → at k ∈ bs
+  unfolding at
+  at-in k a b = getD-in bs (k - 1) (bodyOf s 0) (omega (arith, h .count-is))
+
+  row-at : (k : ℕ) → 1 ≤ k → k ≤ n → rowAt s k ≡ at k .row
+  unfolding at
+  row-at k a b = row-read (h .holds) k (bodyOf s 0) a (omega (arith, h .count-is))
+
+  pub named : Named s n (length R)
+  named k a b = let r = h .row-of (at k) (at-in k a b) in omega (arith, row-at k a b, r)
+
+  pub named-in : (m : ℕ) → m ≡ length R → Named s n m
+  named-in m e = subst (Named s n) (sym e) named
+
+  pub few-ranks : n ≤ 65535
+  few-ranks = omega (arith, h .count-is, h .few)
+
+  pub rows-are : rowsTo s n ≡ map (λ (b : Body). b .row) bs
+  unfolding rowsTo at
+  rows-are = ranks-map (rowAt s) (λ (b : Body). b .row) bs n (bodyOf s 0) (h .count-is) row-at
+
+  pub closing-is : (cycle : ℕ) → (eqb cycle 1 && anyClosing s n) ≡ refusal10 cycle bs
+  unfolding anyClosing
+  closing-is cycle =
+      ap (λ (b : Bool). eqb cycle 1 && b)
+      (ranks-any (closingAt s) (λ (b : Body). b .closing) bs n (bodyOf s 0) (h .count-is) (λ k a b. closing-read (h .holds) k (bodyOf s 0) a (omega (arith, h .count-is))))
+
+  pub left-is : (m : ℕ) → m ≡ length R → length (filter (eqb 0) (reachedFlags (rowsTo s n) m)) ≡ leftOver R bs
+  unfolding reachedFlags
+  left-is m e =
+      ap (λ (xs : List ℕ). length (filter (eqb 0) (map (λ x. bit (memb x xs)) (numbers 1 m)))) rows-are
+      ∙ ap (λ (j : ℕ). length (filter (eqb 0) (map (λ x. bit (memb x xs)) (numbers 1 j)))) e
+      ∙ count-map (eqb 0) (λ x. bit (memb x xs)) (numbers 1 (length R))
+      ∙ ap length (filter-agree (λ x. eqb 0 (bit (memb x xs))) (λ x. not (memb x xs)) (numbers 1 (length R)) (λ x i. bit-clear (memb x xs)))
+    where
+      xs : List ℕ
+      xs = map (λ (b : Body). b .row) bs
+
+  pub totals-is : (minutes : List ℤ) → minutes ≡ map (λ (r : Row). r .minutes) R → totalsTo s minutes n ≡ totalsFrom (bodyMinutes R) (pos 0) bs
+  unfolding totalsTo minutesAt
+  totals-is minutes e =
+      totals-map (minutesAt minutes) (bodyMinutes R) (pos 0) (rowsTo s n) bs
+      (ap (map (minutesAt minutes)) rows-are
+      ∙ map-map (minutesAt minutes) (λ (b : Body). b .row) bs
+      ∙ map-agree (λ (b : Body). minutesAt minutes (b .row)) (bodyMinutes R) bs
+      (λ b m. ap (λ (l : List ℤ). getD l (b .row - 1) (pos 0)) e ∙ own (b .row) (h .row-of b m)))
+    where
+      own : (x : ℕ) → RowOf R x → getD (map (λ (r : Row). r .minutes) R) (x - 1) (pos 0) ≡ boardRow R x .minutes
+      own zero o = absurd (omega (arith, o))
+      own (suc k) o =
+          let e : suc k - 1 ≡ k = omega arith in
+          ap (λ (j : ℕ). getD (map (λ (r : Row). r .minutes) R) j (pos 0)) e ∙ getD-mapped (λ (r : Row). r .minutes) R k noRow (pos 0) (omega (arith, o))
+
+  -- ---- shared numerals
+
+  module _ {row class : List ℕ} (c : Classes R row class) where
+    place : (x : ℕ) → RowOf R x → (p : ℕ) × (p < length row) × (getD row p 0 ≡ x)
+    place x o = place-of row x 0 (subst (λ (l : List ℕ). x ∈ l) (sym (c .row-is)) (sorted-is R x .1 o))
+
+    pub places : Places row (length row)
+    places =
+        record {
+          named = λ p b. let r = sorted-is R (getD row p 0) .0 (subst (λ (l : List ℕ). getD row p 0 ∈ l) (c .row-is) (getD-in row p 0 b)) in omega (arith, r, c .row-long);
+          differ = λ p q a b. increasing-at (λ x y. x ≢ y) row p q 0 (subst (λ (l : List ℕ). Increasing (λ x y. x ≢ y) l) (sym (c .row-is)) (sorted-distinct R)) a b;
+        }
+
+    module _ (kinds : List ℕ) (by-row : ByRow row class kinds) where
+      kindOf : ℕ → ℕ
+      kindOf x = getD kinds (x - 1) 0
+
+      kind-place : (x : ℕ) (o : RowOf R x) → kindOf x ≡ getD class (place x o .0) 0
+      unfolding kindOf
+      kind-place x o = let r = place x o in ap (λ (y : ℕ). getD kinds (y - 1) 0) (sym (r .2)) ∙ by-row (r .0) (r .1)
+
+      kind-below : (x : ℕ) → RowOf R x → kindOf x < length row
+      kind-below x o = let r = place x o in omega (arith, kind-place x o, c .below (r .0) (r .1))
+
+      pub kinds-below : 1 ≤ length row → length kinds ≡ length row → (m : ℕ) → m ≡ length row → (x : ℕ) → getD kinds x 0 < m
+      unfolding kindOf
+      kinds-below l e m q x = subst (λ (k : ℕ). getD kinds x 0 < k) (sym q) (go (decLt x (length row)))
+        where
+          go : Dec (x < length row) → getD kinds x 0 < length row
+          go (yes b) =
+              let back : x + 1 - 1 ≡ x = omega arith in
+              subst (λ (j : ℕ). getD kinds j 0 < length row) back (kind-below (x + 1) (omega arith, omega (arith, c .row-long)))
+          go (no b) = omega (arith, List·getD-eq-default kinds 0 {n = x} (omega arith))
+
+      same-kind : (x y : ℕ) → RowOf R x → RowOf R y → eqb (kindOf x) (kindOf y) ≡ eqb (num R y) (num R x)
+      same-kind x y o u =
+          let p = place x o in
+          let q = place y u in
+          let l = c .same (p .0) (q .0) (p .1) (q .1) in
+          same-test (eqb (kindOf x) (kindOf y)) (eqb (num R y) (num R x))
+          (λ t. eq→eqb (num R y) (num R x) (sym (ap (num R) (sym (p .2)) ∙ l .0 (sym (kind-place x o) ∙ eqb→eq (kindOf x) (kindOf y) t ∙ kind-place y u) ∙ ap (num R) (q .2))))
+          (λ t. eq→eqb (kindOf x) (kindOf y) (kind-place x o ∙ l .1 (ap (num R) (p .2) ∙ sym (eqb→eq (num R y) (num R x) t) ∙ ap (num R) (sym (q .2))) ∙ sym (kind-place y u)))
+
+      kinds-are : kindsTo s kinds n ≡ map (λ (b : Body). kindOf (b .row)) bs
+      unfolding kindsTo kindAt kindOf at
+      kinds-are = ranks-map (kindAt s kinds) (λ (b : Body). kindOf (b .row)) bs n (bodyOf s 0) (h .count-is) (λ k a b. ap (λ (x : ℕ). getD kinds (x - 1) 0) (row-at k a b))
+
+      -- the count of the kind of a body is the number of bodies with its numeral
+      count-is : (m : ℕ) → m ≡ length row → (b : Body) → b ∈ bs → getD (kindCounts (kindsTo s kinds n) m) (kindOf (b .row)) 0 ≡ length (filter (λ (a : Body). eqb (a .numeral) (b .numeral)) bs)
+      unfolding kindCounts
+      count-is m e b i =
+          let z : 0 + kindOf (b .row) ≡ kindOf (b .row) = omega arith in
+          by-place (λ k. length (filter (eqb k) (kindsTo s kinds n))) 0 m (kindOf (b .row)) 0 (omega (arith, kind-below (b .row) (h .row-of b i)))
+          ∙ ap (λ (k : ℕ). length (filter (eqb k) (kindsTo s kinds n))) z
+          ∙ ap (λ (l : List ℕ). length (filter (eqb (kindOf (b .row))) l)) kinds-are
+          ∙ count-map (eqb (kindOf (b .row))) (λ (a : Body). kindOf (a .row)) bs
+          ∙ ap length (filter-agree (λ (a : Body). eqb (kindOf (b .row)) (kindOf (a .row))) (λ (a : Body). eqb (a .numeral) (b .numeral)) bs
+          (λ a j. same-kind (b .row) (a .row) (h .row-of b i) (h .row-of a j) ∙ sym (ap₂ eqb (h .numeral-of a j) (h .numeral-of b i))))
+
+      any-shared-is : (m : ℕ) → m ≡ length row → (leaves : Bool) → anyShared s kinds (kindCounts (kindsTo s kinds n) m) leaves n ≡ any (λ (b : Body). (not leaves || ltb 1 (b .size)) && shared bs b) bs
+      unfolding anyShared sharesAt askedAt kindAt kindOf at
+      any-shared-is m e leaves =
+          ranks-any (sharesAt s kinds counts leaves) (λ (b : Body). (not leaves || ltb 1 (b .size)) && shared bs b) bs n (bodyOf s 0) (h .count-is)
+          (λ k a b.
+          ap₂ (λ (x y : ℕ). (not leaves || ltb 1 x) && ltb 1 y) (size-read (h .holds) k (bodyOf s 0) a (omega (arith, h .count-is)))
+          (ap (λ (x : ℕ). getD counts (getD kinds (x - 1) 0) 0) (row-at k a b) ∙ count-is m e (at k) (at-in k a b)))
+        where
+          counts : List ℕ
+          counts = kindCounts (kindsTo s kinds n) m
+
+      pub shared-is : (counts : List ℕ) (m multi : ℕ) (leaves r : Bool) → m ≡ length row → (multi ≡ 0 → ⊥) → multi ≤ 2 → counts ≡ kindCounts (kindsTo s kinds n) m → leaves ≡ eqb multi 1 → r ≡ anyShared s kinds counts leaves n → r ≡ refusal11 multi bs
+      shared-is counts m multi leaves r e z two o l a =
+          a
+          ∙ ap (λ (k : List ℕ). anyShared s kinds k leaves n) o
+          ∙ ap (λ (t : Bool). anyShared s kinds (kindCounts (kindsTo s kinds n) m) t n) l
+          ∙ any-shared-is m e (eqb multi 1)
+          ∙ go multi z two
+        where
+          go : (k : ℕ) → (k ≡ 0 → ⊥) → k ≤ 2 → any (λ (b : Body). (not (eqb k 1) || ltb 1 (b .size)) && shared bs b) bs ≡ refusal11 k bs
+          go zero z t = absurd (z refl)
+          go (suc zero) z t = refl
+          go (suc (suc zero)) z t = sym (or-none (any (shared bs) bs))
+          go (suc (suc (suc k))) z t = absurd (omega arith)
+
+  pub no-ranks : n ≡ 0 → (multi : ℕ) → false ≡ refusal11 multi bs
+  no-ranks z multi = go bs (omega (arith, h .count-is))
+    where
+      none : (a b : Bool) → false ≡ (a && false || b && false)
+      none true true = refl
+      none true false = refl
+      none false true = refl
+      none false false = refl
+
+      go : (l : List Body) → length l ≡ 0 → false ≡ refusal11 multi l
+      go [] e = none (eqb multi 2) (eqb multi 1)
+      go (b ∷ l) e = absurd (omega arith)
+
+  pub some-row : (n ≡ 0 → ⊥) → 1 ≤ length R
+  some-row z = let r = named 1 (omega arith) (omega arith) in omega (arith, r)
+
+-- zeros
+pub replicate-clear : (l : List ℕ) (n : ℕ) → l ≡ replicate n 0 → length l ≡ n
+replicate-clear l n e = ap length e ∙ length-replicate n 0
+
+pub clear-long : (l : List ℕ) (n : ℕ) → l ≡ replicate n 0 → l ≡ replicate (length l) 0
+clear-long l n e = e ∙ ap (λ (k : ℕ). replicate k 0) (sym (replicate-clear l n e))
+
+not-asked : (multi : ℕ) (bs : List Body) → (multi ≡ 1 → ⊥) → (multi ≡ 2 → ⊥) → false ≡ refusal11 multi bs
+not-asked multi bs a b = simp (ne-eqb multi 1 a, ne-eqb multi 2 b)
+
+pub multi-zero : (multi : ℕ) (bs : List Body) → multi ≡ 0 → false ≡ refusal11 multi bs
+multi-zero multi bs e = not-asked multi bs (λ o. absurd (omega arith)) (λ o. absurd (omega arith))
+
+pub multi-above : (multi : ℕ) (bs : List Body) → 2 < multi → false ≡ refusal11 multi bs
+multi-above multi bs e = not-asked multi bs (λ o. absurd (omega arith)) (λ o. absurd (omega arith))
+
+-- ---- the bodies that a walk has written, and the table of contents over them
+
+module _ {R : List Row} {bs : List Body} {before index : List ℕ} {met : Met} (w : Written R bs before index met) where
+  pub front-held : (index′ : List ℕ) → index′ ≡ cond (ltb (length index) 8) index (sets index 0 (contentsWords (met .count) (met .check))) → index′ ≡ front (imageWords bs) before
+  front-held index′ e =
+      let l : 8 ≤ length index = omega (arith, ap length (w .written) ∙ length-sets before 8 (flat bs), w .room) in
+      e
+      ∙ ap (λ (b : Bool). cond b index (sets index 0 (contentsWords (met .count) (met .check)))) (le-ltb (length index) 8 l)
+      ∙ ap₂ (λ (a b : ℕ). sets index 0 (contentsWords a b)) (w .count-is) (w .check-is)
+      ∙ ap (λ (x : List ℕ). sets x 0 (contentsWords (length bs) (checked 0 (flat bs)))) (w .written)
+      ∙ image-written bs before (w .room)
+
+  pub held : (index′ : List ℕ) → index′ ≡ cond (ltb (length index) 8) index (sets index 0 (contentsWords (met .count) (met .check))) → Held R bs index′ (met .count)
+  held index′ e =
+      record {
+        count-is = w .count-is;
+        few = w .few;
+        holds = subst (λ (x : List ℕ). Holds x bs) (sym (front-held index′ e)) (holds-front bs before);
+        row-of = w .row-of;
+        numeral-of = w .numeral-of;
+      }
+
+-- ---- the answer
+
+late : (R : List Row) (choice : Choice) (bs : List Body) (before index′ : List ℕ) (totals totals′ : List ℤ) (r : Built) (k : ℕ) → 0 < k → lateRefusal R choice bs ≡ k → r ≡ refusedBy k → Finished R choice bs before index′ totals totals′ r
+unfolding lateAnswer
+late R choice bs before index′ totals totals′ r k z e q =
+    let f : eqb (lateRefusal R choice bs) 0 ≡ false = ne-eqb (lateRefusal R choice bs) 0 (λ o. absurd (omega arith)) in
+    let a : lateAnswer R choice bs ≡ refusedBy k = λ i. record { refusal = e i; nodes = cond (f i) (length bs) 0; left = cond (f i) (leftOver R bs) 0 } in
+    record { answer = q ∙ sym a; index-is = λ o. absurd (omega arith); totals-are = λ o. absurd (omega arith) }
+
+-- the table of contents is written, and s is the index then
+module _ (R : List Row) (choice : Choice) (bs : List Body) (before index : List ℕ) (met : Met) (w : Written R bs before index met) (s : List ℕ)
+    (e : s ≡ cond (ltb (length index) 8) index (sets index 0 (contentsWords (met .count) (met .check)))) (totals totals′ : List ℤ) (index′ : List ℕ) (r : Built)
+    (closed : Bool) (closed-is : closed ≡ (eqb (choice .cycle) 1 && anyClosing s (met .count))) where
+  closes : closed ≡ refusal10 (choice .cycle) bs
+  closes = closed-is ∙ closing-is (held w s e) (choice .cycle)
+
+  pub finished-closed : closed ≡ true → r ≡ refusedBy 10 → Finished R choice bs before index′ totals totals′ r
+  unfolding lateRefusal
+  finished-closed t q = late R choice bs before index′ totals totals′ r 10 (omega arith) (simp (sym closes ∙ t)) q
+
+  module _ (clear : closed ≡ false) (share : Bool) (share-is : share ≡ refusal11 (choice .multi) bs) where
+    pub finished-shared : share ≡ true → r ≡ refusedBy 11 → Finished R choice bs before index′ totals totals′ r
+    unfolding lateRefusal
+    finished-shared t q = late R choice bs before index′ totals totals′ r 11 (omega arith) (simp (sym closes ∙ clear, sym share-is ∙ t)) q
+
+    module _ (alone : share ≡ false) (reached : List ℕ) (m : ℕ) (rows : m ≡ length R) (reached-is : reached ≡ reachedFlags (rowsTo s (met .count)) m)
+        (left : ℕ) (left-are : left ≡ length (filter (eqb 0) reached)) (over : Bool) (over-is : over ≡ (eqb (choice .orphan) 1 && not (eqb left 0))) where
+      lefts : left ≡ leftOver R bs
+      lefts = left-are ∙ ap (λ (l : List ℕ). length (filter (eqb 0) l)) reached-is ∙ left-is (held w s e) m rows
+
+      overs : over ≡ (eqb (choice .orphan) 1 && not (eqb (leftOver R bs) 0))
+      overs = over-is ∙ ap (λ (k : ℕ). eqb (choice .orphan) 1 && not (eqb k 0)) lefts
+
+      pub finished-left : over ≡ true → r ≡ refusedBy 12 → Finished R choice bs before index′ totals totals′ r
+      unfolding lateRefusal
+      finished-left t q = late R choice bs before index′ totals totals′ r 12 (omega arith) (simp (sym closes ∙ clear, sym share-is ∙ alone, sym overs ∙ t)) q
+
+      none : over ≡ false → lateRefusal R choice bs ≡ 0
+      unfolding lateRefusal
+      none f = simp (sym closes ∙ clear, sym share-is ∙ alone, sym overs ∙ f)
+
+      pub finished-all : over ≡ false → (minutes : List ℤ) → minutes ≡ map (λ (a : Row). a .minutes) R → totals′ ≡ front (totalsTo s minutes (met .count)) totals → index′ ≡ s → r ≡ record { refusal = 0; nodes = met .count; left = left } → Finished R choice bs before index′ totals totals′ r
+      unfolding lateAnswer
+      finished-all f minutes u v x q =
+          let z = none f in
+          let y : eqb (lateRefusal R choice bs) 0 ≡ true = eq-eqb (lateRefusal R choice bs) 0 z in
+          let a : lateAnswer R choice bs ≡ record { refusal = 0; nodes = length bs; left = leftOver R bs } = λ i. record { refusal = z i; nodes = cond (y i) (length bs) 0; left = cond (y i) (leftOver R bs) 0 } in
+          let b : r ≡ record { refusal = 0; nodes = length bs; left = leftOver R bs } = q ∙ (λ i. record { refusal = 0; nodes = w .count-is i; left = lefts i }) in
+          record {
+            answer = b ∙ sym a;
+            index-is = λ o. x ∙ front-held w s e;
+            totals-are = λ o. v ∙ ap (λ (l : List ℤ). front l totals) (totals-is (held w s e) minutes u);
+          }
