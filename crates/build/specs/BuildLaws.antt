@@ -1,45 +1,46 @@
 -- The branches of a build give the paper's answer. Assumes nothing.
 use mathlib.Core.Path.{_≡_, refl, sym, ap, ap₂, _∙_, subst}
-use mathlib.Core.Logic.{_≢_, _⊎_, inl, inr, ⊎-elim}
+use mathlib.Core.Logic.{_≢_, _⊎_, inl, ⊎-elim}
 use mathlib.Core.Bool.{Bool, true, false, cond, not, _&&_, _||_}
-use mathlib.Core.List.{List, [], _∷_, _++_, map, append-nil}
-use Prim.Native.Nat.{ℕ, zero, suc, _+_, _-_, _*_, _/_, _≤_, _<_, min}
+use mathlib.Core.List.{List, [], _∷_, map, append-nil}
+use Prim.Native.Nat.{ℕ, zero, suc, _+_, _-_, _*_, _≤_, _<_}
 use native.Mathlib.Omega.{arith}
-use native.Mathlib.Decide.{ℕ-discrete, decLt}
-use borrow.Author.Tests.{eq-eqb, ne-eqb, lt-ltb, le-ltb, lt-leb, le-leb, ltb-true, ltb-false, leb-true, leb-false, eqb-true, eqb-false}
-use lib.Dec.{T, eqb, leb, ltb, eqb→eq}
+use native.Mathlib.Decide.{decLt}
+use borrow.Author.Tests.{eq-eqb, ne-eqb, lt-ltb, le-ltb, lt-leb, le-leb, ltb-false, eqb-true}
+use lib.Dec.{T, eqb, leb, ltb}
 use lib.IntN.{ℤ, pos}
-use lib.ListN.{List·getD-eq-default, length, getD, take, replicate, length-map, length-replicate, getD-replicate}
-use lib.Seq.{ext-getD, length-take-le}
-use Rattle.lists.specs.Members.{_∈_, getD-in, filter, filter-in, filter-out, numbers, numbers-in, numbers-out, map-in, totalsFrom}
+use lib.ListN.{List·getD-eq-default, length, getD, take, replicate, length-replicate, getD-replicate}
+use lib.Seq.{ext-getD}
+use Rattle.lists.specs.Members.{_∈_, append-out, map-out, getD-in, filter, filter-in, filter-out, numbers, numbers-in, numbers-out, map-in, totalsFrom}
 use Rattle.lists.specs.Stores.{front}
 use Rattle.lists.specs.Counting.{by-place, by-place-length}
-use Rattle.lists.specs.Choice.{or-no}
 use Rattle.board.specs.declared.Row.{Row}
 use Rattle.board.specs.declared.Board.{Board}
 use Rattle.board.specs.Edits.{rowsOf, soundOf}
-use Rattle.board.specs.Laws.{sound-numeral, sound-count}
+use Rattle.board.specs.Laws.{sound-numeral}
 use Rattle.image.specs.declared.Body.{Body}
-use Rattle.image.specs.Layout.{bit, flat, checked, imageWords}
+use Rattle.image.specs.Layout.{bit, imageWords}
 use Rattle.options.specs.declared.Depth.{Depth}
 use Rattle.options.specs.declared.Depth.the-variants.{None, Limit}
 use Rattle.options.specs.Options.{orphanOf, multiOf, cycleOf, choiceOf, levelLimit}
 use Rattle.orphans.specs.Flags.{lastFlag, topFlags}
 use Rattle.passes.specs.Passes.{reachedFlags}
 use Rattle.paths.specs.Forest.{memb, forest}
-use Rattle.paths.specs.Rows.{row as boardRow, noRow, num, par, RowOf}
-use Rattle.paths.specs.Paths.{last, error}
+use Rattle.paths.specs.Rows.{noRow, num, par, RowOf}
+use Rattle.paths.specs.Paths.{last, closes, Orphan, error}
 use Rattle.paths.specs.Nodes.{sorted, starts, regular, orphanRows, orphanNodes, tops, nodes}
-use Rattle.paths.specs.Bodies.{bodies, runningTotals, leftOf}
+use Rattle.paths.specs.Bodies.{body, orphanCloses, bodies, runningTotals, leftOf}
 use Rattle.paths.specs.Refusals.{orphanChoice, given, isEmpty, refusal6, refusal7, refusal8, refusal9, refusal10, refusal11, refusal12, refusalOf}
-use Rattle.paths.specs.ForestLaws.{forest-nil, memb-in, memb-out}
+use Rattle.paths.specs.ForestLaws.{forest-nil}
 use Rattle.paths.specs.SiblingLaws.{sorted-is}
-use Rattle.paths.specs.BodyLaws.{bodies-length, bodies-rows, bodies-numerals, totals-bodies, left-bodies}
+use Rattle.paths.specs.BodyLaws.{bodies-length, bodies-rows, totals-bodies, left-bodies}
 use Rattle.paths.specs.Bounds.{bodies-bounded}
 use Rattle.request.specs.declared.Built.{Built}
 use Rattle.request.specs.Build.{refusedBy, buildRefusal, builtOf, indexAfter, totalsAfter}
 use Rattle.walk.specs.Walk.{Walked, Clear, flagged}
 use Rattle.prepare.specs.Prepared.{Prepared}
+use Rattle.finish.specs.Finish.{leftOver, lateRefusal, lateAnswer, bodyMinutes, Written, Classes, Finished}
+use Rattle.links.specs.Children.{class-long, class-below, class-iff}
 use Rattle.options.specs.declared.Choice.{Choice}
 use Rattle.walk.specs.declared.Met.{Met}
 use Rattle.enumerate.specs.Enumerate.{Ready, StartFlags, topsAmong}
@@ -246,10 +247,6 @@ error-rows : (R : List Row) (start : Row → Bool) (depth : Depth) → map last 
 unfolding nodes orphanNodes
 error-rows R start depth = ap (map last) (append-nil (regular R start depth))
 
--- "the number of rows that end no node", over bodies
-abbrev pub leftOver : List Row → List Body → ℕ
-leftOver R bs = length (filter (λ x. not (memb x (map (λ (b : Body). b .row) bs))) (numbers 1 (length R)))
-
 -- ---- 12: under error the rows of U are the rows that end no node
 
 unreached-left : (R : List Row) (start : Row → Bool) (depth : Depth) → isEmpty (orphanRows R start depth) ≡ eqb (leftOver R (bodies R start depth error)) 0
@@ -285,7 +282,7 @@ module _ (orphan : ℕ) (flags row reached parent owner : List ℕ) where
   lacks-tops p q tops two e h t f =
       ap (λ (k : ℕ). ltb k (length row)) (f ∙ ap lastFlag t)
       ∙ sym (ap (λ (t : Bool). t && (leb (length row) (lastFlag flags) && ltb (lastFlag (topFlags row reached parent owner)) (length row))) (eq-eqb orphan 2 two)
-        ∙ ap (λ (t : Bool). t && ltb (lastFlag (topFlags row reached parent owner)) (length row)) (le-leb (length row) (lastFlag flags) (omega arith)))
+      ∙ ap (λ (t : Bool). t && ltb (lastFlag (topFlags row reached parent owner)) (length row)) (le-leb (length row) (lastFlag flags) (omega arith)))
 
 -- ---- the branches of the test of refusal 7
 
@@ -386,14 +383,14 @@ module _ (R : List Row) (code : ℕ) (depth : Depth) (start : Row → Bool) (min
     (prepared : Prepared R start minutes row parent numeral child next class owner flags keys) (numbered : (x : ℕ) → RowOf R x → num R x ≢ 0) where
   pub ready-of : Ready R row parent numeral child next class owner keys
   ready-of = record {
-      ordered = prepared .ordered;
-      child-is = prepared .links .child-is;
-      next-is = prepared .links .next-is;
-      class-is = prepared .links .class-is;
-      owner-is = prepared .links .owner-is;
-      keys-are = prepared .links .keys-are;
-      numbered = numbered;
-    }
+    ordered = prepared .ordered;
+    child-is = prepared .links .child-is;
+    next-is = prepared .links .next-is;
+    class-is = prepared .links .class-is;
+    owner-is = prepared .links .owner-is;
+    keys-are = prepared .links .keys-are;
+    numbered = numbered;
+  }
 
   pub board-of : AnyBoard row parent numeral child next class owner keys flags minutes
   board-of = record { R = R; start = start; ready = ready-of; flags-are = prepared .flags-are; minutes-are = prepared .minutes-are }
@@ -408,10 +405,10 @@ module _ (R : List Row) (code : ℕ) (depth : Depth) (start : Row → Bool) (min
     module _ (six : refusal6 code ≡ false) (seven : refusal7 (orphanOf code) depth ≡ false) (index index′ : List ℕ) (totals totals′ : List ℤ) (r : Built) where
       ran-refused : (q : ℕ) → r ≡ refusedBy q → refusalOf R code depth start (length index) (length totals) ≡ q → (q ≡ 0 → ⊥) → Ran R code depth start index index′ totals totals′ r
       ran-refused q e f z = record {
-          answer = e ∙ refused-answer R code depth start (length index) (length totals) q f z;
-          index-is = λ y. absurd (z (sym f ∙ y));
-          totals-are = λ y. absurd (z (sym f ∙ y));
-        }
+        answer = e ∙ refused-answer R code depth start (length index) (length totals) q f z;
+        index-is = λ y. absurd (z (sym f ∙ y));
+        totals-are = λ y. absurd (z (sym f ∙ y));
+      }
 
       pub run-eight : t ≡ true → r ≡ refusedBy 8 → Ran R code depth start index index′ totals totals′ r
       run-eight hit e = ran-refused 8 e (by-eight R code depth start (length index) (length totals) six seven (sym eight-is ∙ hit)) (λ z. absurd (omega arith))
@@ -439,3 +436,107 @@ marks-none n marks e c = ap (λ (l : List ℕ). getD l c 0) e ∙ go (decLt c n)
     go : Dec (c < n) → getD (replicate {A = ℕ} n 0) c 0 ≡ 0
     go (yes h) = getD-replicate {A = ℕ} n c 0 0 h
     go (no h) = List·getD-eq-default (replicate {A = ℕ} n 0) 0 {n = c} (omega (arith, length-replicate {A = ℕ} n 0))
+
+-- ---- the nodes as they are written
+
+numeral-of : (R : List Row) (start : Row → Bool) (depth : Depth) (o : Orphan) (b : Body) → b ∈ bodies R start depth o → b .numeral ≡ num R (b .row)
+unfolding bodies
+numeral-of R start depth o b m =
+    let W : List (List ℕ) = nodes R start depth o in
+    ⊎-elim
+    (λ k. let q = map-out (λ p. body R W false (closes R p) p) (regular R start depth) b k in ap (λ (x : Body). x .numeral) (q .2) ∙ sym (ap (λ (x : Body). num R (x .row)) (q .2)))
+    (λ k. let q = map-out (λ p. body R W true (orphanCloses R o p) p) (orphanNodes R start depth o) b k in ap (λ (x : Body). x .numeral) (q .2) ∙ sym (ap (λ (x : Body). num R (x .row)) (q .2)))
+    (append-out (map (λ p. body R W false (closes R p) p) (regular R start depth)) (map (λ p. body R W true (orphanCloses R o p) p) (orphanNodes R start depth o)) b m)
+
+pub classes-of : (R : List Row) (row parent numeral child next class owner keys : List ℕ) → Ready R row parent numeral child next class owner keys → Classes R row class
+classes-of R row parent numeral child next class owner keys y = record {
+  row-is = y .ordered .rows-are;
+  row-long = row-count R row parent numeral child next class owner keys y;
+  few = few R row parent numeral child next class owner keys y;
+  class-long = class-long R row parent numeral (y .ordered) class (y .class-is);
+  below = class-below R row parent numeral (y .ordered) class (y .class-is);
+  same = class-iff R row parent numeral (y .ordered) class (y .class-is);
+}
+
+module _ (R : List Row) (start : Row → Bool) (depth : Depth) (o : Orphan) (words totals cap : ℕ) (long : 8 ≤ words) (some : 1 ≤ totals) (cap-is : cap ≡ capacityOf words totals)
+    (on on′ ix ix′ : List ℕ) (words-are : length ix ≡ words) (m : Met) (w : Walked (bodies R start depth o) 0 cap 0 on on′ ix ix′ m) where
+  pub nodes-over : cap < m .count → refusal9 (length (bodies R start depth o)) words totals ≡ true
+  nodes-over h = capacity-over (length (bodies R start depth o)) words totals long some (omega (arith, w .count, cap-is))
+
+  module _ (fit : m .count ≤ cap) where
+    count-is : m .count ≡ length (bodies R start depth o)
+    count-is = omega (arith, w .count)
+
+    pub nodes-fit : refusal9 (length (bodies R start depth o)) words totals ≡ false
+    nodes-fit = capacity-fits (length (bodies R start depth o)) words totals long some (omega (arith, count-is, cap-is))
+
+    pub nodes-few : m .count < totals
+    nodes-few = omega (arith, capacity-bounds words totals long, cap-is)
+
+    pub nodes-written : Written R (bodies R start depth o) ix ix′ m
+    nodes-written = record {
+      count-is = count-is;
+      check-is = w .check fit;
+      few = omega (arith, count-is, capacity-bounds words totals long, cap-is);
+      room = omega (arith, count-is, capacity-bounds words totals long, cap-is, words-are);
+      written = w .written fit;
+      row-of = λ b k. bodies-bounded R start depth o b k .row-of;
+      numeral-of = numeral-of R start depth o;
+    }
+
+-- the refusals after 9
+late-is : (R : List Row) (start : Row → Bool) (depth : Depth) (code : ℕ) → lateRefusal R (choiceOf code) (bodies R start depth (orphanChoice (orphanOf code)))
+    ≡ cond (refusal10 (cycleOf code) (bodies R start depth (orphanChoice (orphanOf code)))) 10 (cond (refusal11 (multiOf code) (bodies R start depth (orphanChoice (orphanOf code)))) 11 (cond (refusal12 (orphanOf code) (orphanRows R start depth)) 12 0))
+unfolding lateRefusal
+late-is R start depth code =
+    ap (λ (t : Bool). cond (refusal10 (cycleOf code) bs) 10 (cond (refusal11 (multiOf code) bs) 11 (cond t 12 0))) (same (eqb (orphanOf code) 1) refl)
+  where
+    bs : List Body
+    bs = bodies R start depth (orphanChoice (orphanOf code))
+
+    same : (t : Bool) → eqb (orphanOf code) 1 ≡ t → (t && not (eqb (leftOver R (bodies R start depth (orphanChoice (orphanOf code)))) 0)) ≡ (t && not (isEmpty (orphanRows R start depth)))
+    same false e = refl
+    same true e = ap not (ap (λ (k : ℕ). eqb (leftOver R (bodies R start depth (orphanChoice k))) 0) (eqb-true (orphanOf code) 1 e) ∙ sym (unreached-left R start depth))
+
+module _ (R : List Row) (code : ℕ) (depth : Depth) (start : Row → Bool) (index index′ : List ℕ) (totals totals′ : List ℤ) (choice : Choice) (choice-is : choice ≡ choiceOf code)
+    (six : refusal6 code ≡ false) (seven : refusal7 (orphanOf code) depth ≡ false) (eight : refusal8 (orphanOf code) (tops R start depth) (starts R start) ≡ false) (r : Built) where
+  same-nodes : bodies R start depth (orphanChoice (choice .orphan)) ≡ bodies R start depth (orphanChoice (orphanOf code))
+  same-nodes = ap (λ (c : Choice). bodies R start depth (orphanChoice (c .orphan))) choice-is
+
+  pub nodes-nine : refusal9 (length (bodies R start depth (orphanChoice (choice .orphan)))) (length index) (length totals) ≡ true → r ≡ refusedBy 9 → Ran R code depth start index index′ totals totals′ r
+  nodes-nine nine e =
+      let f = by-nine R code depth start (length index) (length totals) six seven eight (ap (λ (l : List Body). refusal9 (length l) (length index) (length totals)) (sym same-nodes) ∙ nine) in
+      record {
+        answer = e ∙ refused-answer R code depth start (length index) (length totals) 9 f (λ z. absurd (omega arith));
+        index-is = λ z. let q : _≡_ {A = ℕ} 9 0 = sym f ∙ z in absurd (omega arith);
+        totals-are = λ z. let q : _≡_ {A = ℕ} 9 0 = sym f ∙ z in absurd (omega arith);
+      }
+
+  pub nodes-finished : refusal9 (length (bodies R start depth (orphanChoice (choice .orphan)))) (length index) (length totals) ≡ false
+      → Finished R choice (bodies R start depth (orphanChoice (choice .orphan))) index index′ totals totals′ r → Ran R code depth start index index′ totals totals′ r
+  unfolding answerOf lateAnswer
+  nodes-finished nine w =
+      record {
+        answer = w .answer ∙ ap₂ (λ (c : Choice) (l : List Body). lateAnswer R c l) choice-is same-nodes ∙ whole;
+        index-is = λ z. w .index-is (late-here ∙ z) ∙ ap (λ (l : List Body). front (imageWords l) index) same-nodes;
+        totals-are = λ z. w .totals-are (late-here ∙ z) ∙ ap (λ (l : List Body). front (totalsFrom (bodyMinutes R) (pos 0) l) totals) same-nodes ∙ ap (λ (l : List ℤ). front l totals) (sym (totals-bodies R start depth (orphanChoice (orphanOf code))));
+      }
+    where
+      bs : List Body
+      bs = bodies R start depth (orphanChoice (orphanOf code))
+
+      late-code : lateRefusal R (choiceOf code) bs ≡ refusalOf R code depth start (length index) (length totals)
+      late-code = late-is R start depth code ∙ sym (by-late R code depth start (length index) (length totals) six seven eight (ap (λ (l : List Body). refusal9 (length l) (length index) (length totals)) (sym same-nodes) ∙ nine))
+
+      late-here : lateRefusal R choice (bodies R start depth (orphanChoice (choice .orphan))) ≡ refusalOf R code depth start (length index) (length totals)
+      late-here = ap₂ (λ (c : Choice) (l : List Body). lateRefusal R c l) choice-is same-nodes ∙ late-code
+
+      whole : lateAnswer R (choiceOf code) bs ≡ answerOf R code depth start (length index) (length totals)
+      whole = λ i. record {
+        refusal = late-code i;
+        nodes = cond (eqb (late-code i) 0) (bodies-length R start depth (orphanChoice (orphanOf code)) i) 0;
+        left = cond (eqb (late-code i) 0) (sym (left-bodies R start depth (orphanChoice (orphanOf code))) i) 0;
+      }
+
+pub zeros-long : (n : ℕ) (l : List ℕ) → l ≡ replicate n 0 → n ≤ length l
+zeros-long n l e = omega (arith, ap length e, length-replicate {A = ℕ} n 0)

@@ -2,9 +2,9 @@
 use mathlib.Core.Path.{_≡_}
 use mathlib.Core.Bool.{Bool, cond, _&&_}
 use mathlib.Core.List.{List, map}
-use Prim.Native.Nat.{ℕ, _-_, _/_, min, _≤_}
+use Prim.Native.Nat.{ℕ, _-_, _/_, min}
 use lib.Dec.{eqb, leb, ltb}
-use lib.IntN.{ℤ, pos}
+use lib.IntN.{ℤ}
 use lib.ListN.{length, replicate}
 use Rattle.lists.specs.Stores.{front}
 use Rattle.board.specs.declared.Row.{Row}

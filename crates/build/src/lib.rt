@@ -131,7 +131,42 @@ fn write_nodes(
     requires { ⌜ (length (now flags) ≡ length (now row)) × (length (now «parent_keys») ≡ length (now row)) × (length (now scratch) ≡ length (now row)) × Bench (length (now row)) (now reached) (now masked) (now marks) (now kinds) (now counts) ⌝ }
     ensures { λ r. ⌜ ((R : List Row) (start : Row → Bool) (code : ℕ) → Ready R (now (row .entry)) (now (parent .entry)) (now (numeral .entry)) (now (child .entry)) (now (next .entry)) (now (class .entry)) (now (owner .entry)) (now («numeral_keys» .entry)) → StartFlags R start (now (row .entry)) (now (flags .entry)) → now (minutes .entry) ≡ map (λ (x : Row). x .minutes) R → choice ≡ choiceOf code → refusal6 code ≡ false → refusal7 (orphanOf code) depth ≡ false → refusal8 (orphanOf code) (tops R start depth) (starts R start) ≡ false → Ran R code depth start (now (index .entry)) (now (index .exit)) (now (totals .entry)) (now (totals .exit)) r) ⌝ }
 {
-    request::refused(9)
+    let met = enumerate::enumerate(
+        choice.orphan,
+        depth,
+        cap,
+        flags,
+        row,
+        parent,
+        numeral,
+        numeral_keys,
+        class,
+        owner,
+        reached,
+        masked,
+        child,
+        next,
+        parent_keys,
+        scratch,
+        marks,
+        index,
+    );
+    if cap < met.count {
+        return request::refused(9);
+    }
+    clear_words(reached);
+    finish::finish(
+        choice,
+        met,
+        row,
+        class,
+        minutes,
+        reached,
+        kinds,
+        counts,
+        index,
+        totals,
+    )
 }
 
 // The build of the first rows, as many as each slice has places. Where it is refused, both slices may hold anything.
@@ -167,7 +202,23 @@ fn run(
     ensures { λ r. ⌜ Ran (take (length (now (row .entry))) rows) code depth (startRule start (now (list .entry))) (now (index .entry)) (now (index .exit)) (now (totals .entry)) (now (totals .exit)) r ⌝ }
 {
     let choice = options::choices(code as usize);
-    prepare::prepare(rows, start, list, minutes, row, parent, numeral, child, next, class, owner, flags, parent_keys, numeral_keys, scratch);
+    prepare::prepare(
+        rows,
+        start,
+        list,
+        minutes,
+        row,
+        parent,
+        numeral,
+        child,
+        next,
+        class,
+        owner,
+        flags,
+        parent_keys,
+        numeral_keys,
+        scratch,
+    );
     if lacks_start(choice.orphan, flags, row, reached, parent, owner, masked) {
         return request::refused(8);
     }
@@ -178,7 +229,30 @@ fn run(
         return request::refused(9);
     }
     let cap = capacity(index.len(), totals.len());
-    write_nodes(choice, depth, cap, minutes, row, parent, numeral, numeral_keys, class, owner, child, next, flags, parent_keys, scratch, reached, masked, marks, kinds, counts, index, totals)
+    write_nodes(
+        choice,
+        depth,
+        cap,
+        minutes,
+        row,
+        parent,
+        numeral,
+        numeral_keys,
+        class,
+        owner,
+        child,
+        next,
+        flags,
+        parent_keys,
+        scratch,
+        reached,
+        masked,
+        marks,
+        kinds,
+        counts,
+        index,
+        totals,
+    )
 }
 
 // The build of n rows, in working arrays of its own.
@@ -212,7 +286,32 @@ fn work(
     let mut marks = [0u32; 1024];
     let mut kinds = [0u32; 1024];
     let mut counts = [0u32; 1024];
-    run(rows, code, depth, start, list, &mut minutes[..n], &mut row[..n], &mut parent[..n], &mut numeral[..n], &mut child[..n], &mut next[..n], &mut class[..n], &mut owner[..n], &mut flags[..n], &mut parent_keys[..n], &mut numeral_keys[..n], &mut scratch[..n], &mut reached[..n], &mut masked[..n], &mut marks[..n], &mut kinds[..n], &mut counts[..n], index, totals)
+    run(
+        rows,
+        code,
+        depth,
+        start,
+        list,
+        &mut minutes[..n],
+        &mut row[..n],
+        &mut parent[..n],
+        &mut numeral[..n],
+        &mut child[..n],
+        &mut next[..n],
+        &mut class[..n],
+        &mut owner[..n],
+        &mut flags[..n],
+        &mut parent_keys[..n],
+        &mut numeral_keys[..n],
+        &mut scratch[..n],
+        &mut reached[..n],
+        &mut masked[..n],
+        &mut marks[..n],
+        &mut kinds[..n],
+        &mut counts[..n],
+        index,
+        totals,
+    )
 }
 
 // The build of a board. Where it is refused, both slices may hold anything.
@@ -272,5 +371,13 @@ pub fn build_default(board: Board, index: &mut [u32], totals: &mut [i64]) -> Bui
     ensures { λ _. ⌜ now (totals .exit) ≡ totalsAfter board 0 None parentZero (length (now (index .entry))) (now (totals .entry)) ⌝ }
 {
     let unread = [0u32; 1];
-    build(board, 0, Depth::None, Start::ParentZero, &unread, index, totals)
+    build(
+        board,
+        0,
+        Depth::None,
+        Start::ParentZero,
+        &unread,
+        index,
+        totals,
+    )
 }

@@ -1,84 +1,61 @@
-use mathlib.Core.Path.{_≡_, refl, sym, ap, _∙_, subst}
+use mathlib.Core.Path.{sym, ap, _∙_}
 use borrow.Author.Tests.{not-true, not-false, lt-ltb, le-ltb}
 use Rattle.options.specs.declared.Choice.{Choice}
-use Rattle.options.specs.declared.Depth.{Depth}
 use Rattle.paths.specs.Refusals.{refusal7}
-use Rattle.board.specs.Edits.{soundOf}
 use Rattle.board.specs.Laws.{sound-count}
 use Rattle.build.specs.BuildLaws.{by-six, by-seven, attempt-sound, attempt-unsound, attempt-ran, attempt-as, sound-numbered}
 use borrow.Author.Needs.{needs}
 use native.Mathlib.Omega.{arith}
-use Prim.Native.Nat.{ℕ, _≤_, _<_, _-_, _+_, _*_}
-use lib.ListN.{length}
+use Prim.Native.Nat.{_-_}
 use Rattle.build.proofs.attempt.Statement.{statement}
 use Rattle.build.proofs.attempt.Tie as tie
-use Rattle.build.proofs.attempt.Reads as reads
-use Rattle.build.proofs.attempt.Lts as lts
-use Rattle.board.proofs.Board.sound.Reads as sound-reads
-use Rattle.build.proofs.is_depth_refused.Reads as is-depth-refused-reads
-use Rattle.build.proofs.work.Reads as work-reads
-use Rattle.options.proofs.choices.Reads as choices-reads
-use Rattle.request.proofs.refused.Reads as refused-reads
 
--- src/lib.rt:185:9
 sound-requires : tie.Need-sound-requires
 sound-requires c κs = search needs
 
--- src/lib.rt:186:9
 refused-requires : tie.Need-refused-requires
 refused-requires c κs = search needs
 
--- src/lib.rt:186:9
 returns : tie.Need-returns
 returns c =
     let u = sym (c .before .before .sound .ensures) ∙ not-true (c .before .before .sound .result) (c .before .if1 .taken) in
     attempt-as _ _ _ _ _ _ _ _ 1 _ (c .refused .ensures) (attempt-unsound _ _ _ _ _ _ _ _ u)
 
--- src/lib.rt:189:9
 refused-requires-2 : tie.Need-refused-requires-2
 refused-requires-2 c κs = search needs
 
--- src/lib.rt:189:9
 returns-2 : tie.Need-returns-2
 returns-2 c =
     let y = sym (c .before .before .before .sound .ensures) ∙ not-false (c .before .before .before .sound .result) (c .before .before .if1 .left) in
     attempt-as _ _ _ _ _ _ _ _ 6 _ (c .refused2 .ensures) (attempt-sound _ _ _ _ _ _ _ _ 6 y (by-six _ _ _ _ _ _ (lt-ltb 23 (c .before .before .before .before .before .before .args .code) (c .before .if2 .taken))) (λ z. absurd (omega arith)))
 
--- src/lib.rt:191:9
 choices-requires : tie.Need-choices-requires
 choices-requires c κs = search needs
 
--- src/lib.rt:192:8
 is-depth-refused-requires : tie.Need-is-depth-refused-requires
 is-depth-refused-requires c κs = search needs
 
--- src/lib.rt:193:9
 refused-requires-3 : tie.Need-refused-requires-3
 refused-requires-3 c κs = search needs
 
--- src/lib.rt:193:9
 returns-3 : tie.Need-returns-3
 returns-3 c =
     let y = sym (c .before .before .before .before .before .before .sound .ensures) ∙ not-false (c .before .before .before .before .before .before .sound .result) (c .before .before .before .before .before .if1 .left) in
     let seven = ap (λ (x : Choice). refusal7 (x .orphan) (c .before .before .before .before .before .before .before .before .before .args .depth)) (sym (c .before .before .before .choices .ensures)) ∙ sym (c .before .before .is-depth-refused .ensures) ∙ c .before .if3 .taken in
     attempt-as _ _ _ _ _ _ _ _ 7 _ (c .refused3 .ensures) (attempt-sound _ _ _ _ _ _ _ _ 7 y (by-seven _ _ _ _ _ _ (le-ltb 23 (c .before .before .before .before .before .before .before .before .before .args .code) (c .before .before .before .before .if2 .left)) seven) (λ z. absurd (omega arith)))
 
--- src/lib.rt:197:5
 work-requires : tie.Need-work-requires
 work-requires c κs =
     let y = sym (c .before .before .before .before .before .before .before .before .sound .ensures) ∙ not-false (c .before .before .before .before .before .before .before .before .sound .result) (c .before .before .before .before .before .before .before .if1 .left) in
     let seven = ap (λ (x : Choice). refusal7 (x .orphan) (c .before .before .before .before .before .before .before .before .before .before .before .args .depth)) (sym (c .before .before .before .before .before .choices .ensures)) ∙ sym (c .before .before .before .before .is-depth-refused .ensures) ∙ c .before .before .before .if3 .left in
     (sound-count _ y, le-ltb 23 (c .before .before .before .before .before .before .before .before .before .before .before .args .code) (c .before .before .before .before .before .before .if2 .left), seven, sound-numbered _ y)
 
--- src/lib.rt:174:1
 same-length : tie.Need-same-length
 same-length c = search needs
 
--- src/lib.rt:174:1
 same-length-2 : tie.Need-same-length-2
 same-length-2 c = search needs
 
--- src/lib.rt:174:1
 returns-4 : tie.Need-returns-4
 returns-4 c =
     let y = sym (c .before .before .before .before .before .before .before .before .before .before .before .before .sound .ensures) ∙ not-false (c .before .before .before .before .before .before .before .before .before .before .before .before .sound .result) (c .before .before .before .before .before .before .before .before .before .before .before .if1 .left) in

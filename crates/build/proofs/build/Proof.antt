@@ -1,60 +1,47 @@
 use lib.ListN.{replicate}
 use lib.IntN.{ℤ, pos}
-use mathlib.Core.Path.{sym, ap, _∙_}
+use mathlib.Core.Path.{ap, _∙_}
 use Rattle.build.specs.BuildLaws.{accepted-index, accepted-totals, refused-index, refused-totals}
 use borrow.Author.Needs.{needs}
-use native.Mathlib.Omega.{arith}
-use Prim.Native.Nat.{ℕ, _≤_, _<_, _-_, _+_, _*_}
-use lib.ListN.{length}
+use Prim.Native.Nat.{ℕ, _-_}
 use Rattle.build.proofs.build.Statement.{statement}
 use Rattle.build.proofs.build.Tie as tie
-use Rattle.build.proofs.build.Reads as reads
-use Rattle.build.proofs.build.Lts as lts
-use Rattle.build.proofs.attempt.Reads as attempt-reads
-use Rattle.build.proofs.clear_totals.Reads as clear-totals-reads
-use Rattle.build.proofs.clear_words.Reads as clear-words-reads
 
--- src/lib.rt:206:9
 attempt-requires : tie.Need-attempt-requires
 attempt-requires c κs = search needs
 
--- src/lib.rt:208:9
 same-length : tie.Need-same-length
 same-length c = search needs
 
--- src/lib.rt:208:9
 same-length-2 : tie.Need-same-length-2
 same-length-2 c = search needs
 
--- src/lib.rt:208:9
 returns : tie.Need-returns
 returns c =
     let w = c .before .before .before .before .before .attempt .ensures in
     (w .answer, (accepted-index _ _ _ _ _ _ _ _ _ w (c .if1 .taken), accepted-totals _ _ _ _ _ _ _ _ _ w (c .if1 .taken)))
 
--- src/lib.rt:210:5
 clear-words-requires : tie.Need-clear-words-requires
 clear-words-requires c κs = search needs
 
--- src/lib.rt:211:5
 clear-totals-requires : tie.Need-clear-totals-requires
 clear-totals-requires c κs = search needs
 
--- src/lib.rt:193:1
 same-length-3 : tie.Need-same-length-3
 same-length-3 c = search needs
 
--- src/lib.rt:193:1
 same-length-4 : tie.Need-same-length-4
 same-length-4 c = search needs
 
--- src/lib.rt:193:1
 returns-2 : tie.Need-returns-2
 returns-2 c =
-    let w = c .before .before .before .before .before .before .before .before .before .before .before .before .attempt .ensures in
-    ( w .answer
-    , ( refused-index _ _ _ _ _ _ _ _ _ w (c .before .before .before .before .before .before .before .if1 .left) _ (c .before .before .before .before .before .clear-words .ensures ∙ ap (λ (k : ℕ). replicate {A = ℕ} k 0) (c .before .before .before .before .before .before .before .before .before .before .before .index .given))
-      , refused-totals _ _ _ _ _ _ _ _ _ w (c .before .before .before .before .before .before .before .if1 .left) _ (c .before .clear-totals .ensures ∙ ap (λ (k : ℕ). replicate {A = ℤ} k (pos 0)) (c .before .before .before .before .before .before .before .before .before .totals .given))))
+    let w = c .before .before .before .before .before .before .before .before .before .before .before .before .attempt .ensures in (
+      w .answer,
+      (
+        refused-index _ _ _ _ _ _ _ _ _ w (c .before .before .before .before .before .before .before .if1 .left) _ (c .before .before .before .before .before .clear-words .ensures ∙ ap (λ (k : ℕ). replicate {A = ℕ} k 0) (c .before .before .before .before .before .before .before .before .before .before .before .index .given)),
+        refused-totals _ _ _ _ _ _ _ _ _ w (c .before .before .before .before .before .before .before .if1 .left) _ (c .before .clear-totals .ensures ∙ ap (λ (k : ℕ). replicate {A = ℤ} k (pos 0)) (c .before .before .before .before .before .before .before .before .before .totals .given)),
+      ),
+    )
 
 pub build-spec : {M : Type 1} → statement M
 build-spec =

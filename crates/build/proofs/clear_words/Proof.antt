@@ -1,15 +1,12 @@
-use mathlib.Core.Path.{_≡_, refl, sym, ap, _∙_}
+use mathlib.Core.Path.{_≡_, refl, sym}
 use lib.ListN.{replicate, length-replicate, getD-replicate, length-set}
-use lib.IntN.{ℤ, pos}
 use Rattle.lists.specs.Stores.{Filling, filling-start, filling-step, filling-end}
 use borrow.Author.Needs.{needs}
 use native.Mathlib.Omega.{arith}
-use Prim.Native.Nat.{ℕ, _≤_, _<_, _-_, _+_, _*_}
+use Prim.Native.Nat.{ℕ, _≤_, _-_}
 use lib.ListN.{length}
 use Rattle.build.proofs.clear_words.Statement.{statement}
 use Rattle.build.proofs.clear_words.Tie as tie
-use Rattle.build.proofs.clear_words.Reads as reads
-use Rattle.build.proofs.clear_words.Lts as lts
 
 abbrev Inv-loop : tie.InvT-loop
 Inv-loop s₀ k₀ s k = Filling (replicate (length s₀) 0) s k × (k ≤ length s₀) × (length s ≡ length s₀)
@@ -17,40 +14,32 @@ Inv-loop s₀ k₀ s k = Filling (replicate (length s₀) 0) s k × (k ≤ lengt
 abbrev μ-loop : tie.MeasureT-loop
 μ-loop s₀ k₀ s k = length s₀ - k
 
--- src/lib.rt:31:5
 loop-holds : tie.Need-loop-holds Inv-loop μ-loop
 loop-holds c =
     (filling-start _ _ (length-replicate {A = ℕ} _ 0), omega arith, refl)
 
--- src/lib.rt:32:9
 mul-s : tie.Need-mul-s Inv-loop μ-loop
 mul-s c = search needs
 
--- src/lib.rt:32:9
 slice-write-s : tie.Need-slice-write-s Inv-loop μ-loop
 slice-write-s c = search needs
 
--- src/lib.rt:33:9
 add-k : tie.Need-add-k Inv-loop μ-loop
 add-k c = search needs
 
--- src/lib.rt:31:5
 loop-less : tie.Need-loop-less Inv-loop μ-loop
 loop-less c =
     omega (arith, c .before .loop .inv .2, c .loop-test .taken)
 
--- src/lib.rt:31:5
 loop-again : tie.Need-loop-again Inv-loop μ-loop
 loop-again c =
     let n : ℕ = length (c .before .before .args .s .now) in
     (filling-step _ _ _ _ 0 (omega (arith, length-replicate {A = ℕ} n 0)) (c .before .loop .inv .0) (sym (getD-replicate {A = ℕ} n (c .before .loop .k) 0 0 (omega (arith, c .before .loop .inv .2, c .loop-test .taken)))), omega (arith, c .before .loop .inv .2, c .loop-test .taken), simp length-set (c .before .loop .inv .2))
 
--- src/lib.rt:27:1
 same-length : tie.Need-same-length Inv-loop μ-loop
 same-length c =
     c .before .loop .inv .2
 
--- src/lib.rt:27:1
 returns : tie.Need-returns Inv-loop μ-loop
 returns c =
     let n : ℕ = length (c .before .before .args .s .now) in

@@ -1,20 +1,162 @@
+use mathlib.Core.Path.{_≡_, refl, ap, _∙_}
+use lib.ListN.{replicate, length-replicate}
+use Rattle.build.specs.BuildLaws.{capacity-bounds, marks-none, zeros-long, nodes-over, nodes-fit, nodes-few, nodes-written, nodes-nine, nodes-finished, classes-of}
 use borrow.Author.Needs.{needs}
 use native.Mathlib.Omega.{arith}
-use Prim.Native.Nat.{ℕ, _≤_, _<_, _-_, _+_, _*_}
+use Prim.Native.Nat.{ℕ, _-_}
 use lib.ListN.{length}
 use Rattle.build.proofs.write_nodes.Statement.{statement}
 use Rattle.build.proofs.write_nodes.Tie as tie
-use Rattle.build.proofs.write_nodes.Reads as reads
-use Rattle.build.proofs.write_nodes.Lts as lts
-use Rattle.request.proofs.refused.Reads as refused-reads
 
--- src/lib.rt:134:5
+enumerate-requires : tie.Need-enumerate-requires
+enumerate-requires c κs =
+    let s = c .before .before .before .before .before .before .before .before .before .before .before .before .before .before .before .before .before .before .before .before .before .before .before .before .before .before in
+    let a = s .pre .0 in
+    let q = s .pre .1 .0 in
+    let l = s .pre .1 .1 in
+    let z = l .3 in
+    let b = capacity-bounds (length (s .args .index .now)) (length (s .args .totals .now)) (q .2) in (
+      record { R = a .R; start = a .start; ready = a .ready; flags-are = a .flags-are },
+      (
+        (q .0, q .1, omega (arith, b, q .4), omega (arith, b, q .4)),
+        record { reached-clear = z .reached-clear; masked-long = z .masked-long; flags-long = l .0; keys-long = l .1; scratch-long = l .2; marks-long = zeros-long _ _ (z .marks-clear); marks-clear = marks-none (length (s .args .row .now)) _ (z .marks-clear) },
+      ),
+    )
+
 refused-requires : tie.Need-refused-requires
 refused-requires c κs = search needs
 
--- src/lib.rt:105:1
+same-length : tie.Need-same-length
+same-length c = search needs
+
+same-length-2 : tie.Need-same-length-2
+same-length-2 c = search needs
+
+same-length-3 : tie.Need-same-length-3
+same-length-3 c = search needs
+
+same-length-4 : tie.Need-same-length-4
+same-length-4 c = search needs
+
+same-length-5 : tie.Need-same-length-5
+same-length-5 c = search needs
+
+same-length-6 : tie.Need-same-length-6
+same-length-6 c = search needs
+
+same-length-7 : tie.Need-same-length-7
+same-length-7 c = search needs
+
+same-length-8 : tie.Need-same-length-8
+same-length-8 c = search needs
+
+same-length-9 : tie.Need-same-length-9
+same-length-9 c = search needs
+
 returns : tie.Need-returns
-returns c = ?
+returns c =
+    let s = c .before .before .before .before .before .before .before .before .before .before .before .before .before .before .before .before .before .before .before .before .before .before .before .before .before .before .before .before .before .before .before .before .before .before .before .before .before .before .before .before .before .before .before .before .before .before .before .before in
+    let q = s .pre .1 .0 in
+    λ R start code y f m e six seven eight.
+    nodes-nine R code (s .args .depth) start _ _ _ _ (s .args .choice) e six seven eight _
+    (nodes-over R start (s .args .depth) _ _ _ _ (q .2) (q .3) (q .4) _ _ _ _ refl _ (c .before .before .before .before .before .before .before .before .before .before .before .before .before .before .before .before .before .before .before .before .before .enumerate .ensures R start y f) (c .before .if1 .taken)) (c .refused .ensures)
+
+clear-words-requires : tie.Need-clear-words-requires
+clear-words-requires c κs = search needs
+
+finish-requires : tie.Need-finish-requires
+finish-requires c κs =
+    let s = c .before .before .before .before .before .before .before .before .before .before .before .before .before .before .before .before .before .before .before .before .before .before .before .before .before .before .before .before .before .before .before .before .before .before .before .before .before .before .before .before .before .before .before .before .before .before .before .before .before .before .before .before .before .before .before .before in
+    let a = s .pre .0 in
+    let q = s .pre .1 .0 in
+    let z = s .pre .1 .1 .3 in
+    let w = c .before .before .before .before .before .before .before .before .before .before .before .before .before .before .before .before .before .before .before .before .before .before .before .before .before .before .before .before .before .enumerate .ensures (a .R) (a .start) (a .ready) (a .flags-are) in
+    let n : ℕ = length (s .args .row .now) in
+    let long : length (s .args .reached .now) ≡ n = ap length (z .reached-clear) ∙ length-replicate {A = ℕ} n 0 in (
+      record { R = a .R; bs = _; before = _; written = nodes-written (a .R) (a .start) (s .args .depth) _ _ _ _ (q .2) (q .3) (q .4) _ _ _ _ refl _ w (c .before .before .before .before .before .before .before .before .before .if1 .left); classes = classes-of _ _ _ _ _ _ _ _ _ (a .ready); minutes-are = a .minutes-are },
+      (
+        c .before .before .before .before .before .before .before .clear-words .ensures ∙ ap (λ (k : ℕ). replicate {A = ℕ} k 0) (c .before .before .before .before .before .before .before .before .before .before .before .before .before .before .before .before .before .before .before .before .before .before .before .before .before .before .reached .given ∙ long),
+        z .kinds-long,
+        z .counts-clear,
+        nodes-few (a .R) (a .start) (s .args .depth) _ _ _ _ (q .2) (q .3) (q .4) _ _ _ _ refl _ w (c .before .before .before .before .before .before .before .before .before .if1 .left),
+      ),
+    )
+
+same-length-10 : tie.Need-same-length-10
+same-length-10 c = search needs
+
+same-length-11 : tie.Need-same-length-11
+same-length-11 c = search needs
+
+same-length-12 : tie.Need-same-length-12
+same-length-12 c = search needs
+
+same-length-13 : tie.Need-same-length-13
+same-length-13 c = search needs
+
+same-length-14 : tie.Need-same-length-14
+same-length-14 c = search needs
+
+same-length-15 : tie.Need-same-length-15
+same-length-15 c = search needs
+
+same-length-16 : tie.Need-same-length-16
+same-length-16 c = search needs
+
+same-length-17 : tie.Need-same-length-17
+same-length-17 c = search needs
+
+same-length-18 : tie.Need-same-length-18
+same-length-18 c = search needs
+
+same-length-19 : tie.Need-same-length-19
+same-length-19 c = search needs
+
+same-length-20 : tie.Need-same-length-20
+same-length-20 c =
+    c .before .before .index2 .given ∙ c .before .before .before .before .before .before .before .before .before .before .before .before .before .before .before .before .before .before .before .before .before .before .index .given
+
+same-length-21 : tie.Need-same-length-21
+same-length-21 c = search needs
+
+returns-2 : tie.Need-returns-2
+returns-2 c =
+    let s = c .before .before .before .before .before .before .before .before .before .before .before .before .before .before .before .before .before .before .before .before .before .before .before .before .before .before .before .before .before .before .before .before .before .before .before .before .before .before .before .before .before .before .before .before .before .before .before .before .before .before .before .before .before .before .before .before .before .before .before .before .before .before .before .before .before .before in
+    let q = s .pre .1 .0 in
+    λ R start code y f m e six seven eight.
+    let w = c .before .before .before .before .before .before .before .before .before .before .before .before .before .before .before .before .before .before .before .before .before .before .before .before .before .before .before .before .before .before .before .before .before .before .before .before .before .before .before .enumerate .ensures R start y f in
+    nodes-finished R code (s .args .depth) start _ _ _ _ (s .args .choice) e six seven eight _
+    (nodes-fit R start (s .args .depth) _ _ _ _ (q .2) (q .3) (q .4) _ _ _ _ refl _ w (c .before .before .before .before .before .before .before .before .before .before .before .before .before .before .before .before .before .before .before .if1 .left))
+    (c .before .before .before .before .before .before .before .before .before .finish .ensures R _ _ (nodes-written R start (s .args .depth) _ _ _ _ (q .2) (q .3) (q .4) _ _ _ _ refl _ w (c .before .before .before .before .before .before .before .before .before .before .before .before .before .before .before .before .before .before .before .if1 .left)) (classes-of _ _ _ _ _ _ _ _ _ y) m)
 
 pub write-nodes-spec : {M : Type 1} → statement M
-write-nodes-spec = tie.close (tie.spec refused-requires returns)
+write-nodes-spec =
+    tie.close
+    (tie.spec
+    enumerate-requires
+    refused-requires
+    same-length
+    same-length-2
+    same-length-3
+    same-length-4
+    same-length-5
+    same-length-6
+    same-length-7
+    same-length-8
+    same-length-9
+    returns
+    clear-words-requires
+    finish-requires
+    same-length-10
+    same-length-11
+    same-length-12
+    same-length-13
+    same-length-14
+    same-length-15
+    same-length-16
+    same-length-17
+    same-length-18
+    same-length-19
+    same-length-20
+    same-length-21
+    returns-2)
