@@ -90,6 +90,12 @@ typedef struct flowpewter_replayed {
     flowpewter_board board;
 } flowpewter_replayed;
 
+typedef struct flowpewter_built {
+    uint32_t refusal;
+    uint32_t nodes;
+    uint32_t left; /* rows that end no node */
+} flowpewter_built;
+
 typedef struct flowpewter_span_answer {
     uint32_t refusal;
     size_t start; /* first word in the index slice, counted from 0 */
@@ -137,6 +143,25 @@ flowpewter_edited flowpewter_undo(flowpewter_board board);
  * minutes remarks; 3 undoes; words that a call doesn't use are ignored, and minutes are the bits of an int32_t. The
  * refusal of each call goes to the front of `refusals`, 0 for none; the rest stays. 101, 102, 103. */
 flowpewter_replayed flowpewter_replay(const uint32_t *words, size_t words_len, uint32_t *refusals, size_t refusals_len);
+
+/* ---- builds; refusals 1 and 6 to 12 */
+
+/* Builds the index of the board's paths and the running totals of their minutes; words and totals beyond stay.
+ *
+ * code is orphan + 4 * multi + 12 * cycle. Orphan: 0 ignore, 1 error, 2 adopt, 3 root. Multi: 0 allow, 1 leaves, 2
+ * error. Cycle: 0 break up, 1 error. With has_depth, a path has at most depth + 1 rows, and none if depth is negative;
+ * else depth is ignored. With by_list, paths start from rows whose numeral is in the list, else from rows with parent 0,
+ * and the list is ignored.
+ *
+ * The index: node count n, 8, 6, the sum of all body words wrapping at 2^32, four zeros, then n bodies. The totals: 0,
+ * then the minutes added node by node. */
+flowpewter_built flowpewter_build(flowpewter_board board, uint32_t code, bool has_depth, int32_t depth, bool by_list,
+                                  const uint32_t *list, size_t list_len, uint32_t *index, size_t index_len,
+                                  int64_t *totals, size_t totals_len);
+
+/* The same with code 0, no depth, paths starting from rows with parent 0. */
+flowpewter_built flowpewter_build_default(flowpewter_board board, uint32_t *index, size_t index_len, int64_t *totals,
+                                          size_t totals_len);
 
 /* ---- navigation of any slices, built here or not; refusals 13 to 16. Ranks are counted from 1. Distance is the listed
  * node's level less that of the rank given; lo and hi are included. Lists go to the front of `out`; the rest stays. */

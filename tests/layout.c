@@ -28,6 +28,10 @@ int main(void) {
     FIELD(replayed, refusal);
     FIELD(replayed, calls);
     FIELD(replayed, board);
+    STRUCT(built);
+    FIELD(built, refusal);
+    FIELD(built, nodes);
+    FIELD(built, left);
     STRUCT(span_answer);
     FIELD(span_answer, refusal);
     FIELD(span_answer, start);

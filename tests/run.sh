@@ -31,4 +31,10 @@ compile layout tests/layout.c
 cargo run --offline --release --quiet --manifest-path rust/Cargo.toml --bin layout >"$out/layout.rust.out"
 same "layouts in C and Rust" "$out/layout.c.out" "$out/layout.rust.out"
 
+compile pump examples/c/pump.c
+"$out/pump" >"$out/pump.c.out"
+cargo run --offline --release --quiet --manifest-path rust/Cargo.toml --example pump >"$out/pump.rust.out"
+same "the pump in C and its listing" "$out/pump.c.out" examples/pump.out
+same "the pump in Rust and its listing" "$out/pump.rust.out" examples/pump.out
+
 echo "tests: all passed"

@@ -6,14 +6,21 @@ ghost use Rattle.navigate.specs.Navigate.{descendantsAnswer, descendantsOut, si
 ghost use Rattle.navigate.specs.Climb.{ancestorsAnswer, ancestorsOut};
 ghost use Rattle.sums.specs.Sums.{subtreeAnswer, pathAnswer};
 ghost use Rattle.index_check.specs.IndexCheck.{accepts};
+ghost use Rattle.options.specs.declared.Depth.the-variants.{None};
+ghost use Rattle.paths.specs.Rows.{parentZero};
+ghost use Rattle.request.specs.Build.{startRule, builtOf, indexAfter, totalsAfter};
 ghost use Rattle.history.specs.Encoding.{replayedOf, refusalsOf};
 ghost use Rattle.exports.specs.Spans.{spanOf};
+ghost use Rattle.exports.specs.Requests.{depthOf, startOf};
 use board::Board;
 use board::Edited;
 use board::Row;
 use history::Replayed;
 use navigate::Climbed;
 use navigate::Listed;
+use options::Depth;
+use request::Built;
+use request::Start;
 use sums::Summed;
 
 // Where a node's span stands in the index slice: its first word, counted from 0, and its number of words.
@@ -22,6 +29,24 @@ pub struct Span {
     pub refusal: u32,
     pub start: usize,
     pub words: usize,
+}
+
+fn depth_of(has_depth: bool, depth: i32) -> Depth
+    ensures { λ r. ⌜ r ≡ depthOf «has_depth» depth ⌝ }
+{
+    if has_depth {
+        return Depth::Limit(depth);
+    }
+    Depth::None
+}
+
+fn start_of(by_list: bool) -> Start
+    ensures { λ r. ⌜ r ≡ startOf «by_list» ⌝ }
+{
+    if by_list {
+        return Start::Listed;
+    }
+    Start::ParentZero
 }
 
 #[no_mangle]
@@ -72,6 +97,40 @@ pub extern "C" fn flowpewter_replay(words: &[u32], refusals: &mut [u32]) -> Repl
     ensures { λ _. ⌜ now (refusals .exit) ≡ refusalsOf (now (words .entry)) (now (refusals .entry)) ⌝ }
 {
     history::replay(words, refusals)
+}
+
+// Without `has_depth` the depth is ignored, and without `by_list` the list is.
+#[no_mangle]
+pub extern "C" fn flowpewter_build(
+    board: Board,
+    code: u32,
+    has_depth: bool,
+    depth: i32,
+    by_list: bool,
+    list: &[u32],
+    index: &mut [u32],
+    totals: &mut [i64],
+) -> Built
+    ensures { λ r. ⌜ r ≡ builtOf board code (depthOf «has_depth» depth) (startRule (startOf «by_list») (now (list .entry))) (length (now (index .entry))) (length (now (totals .entry))) ⌝ }
+    ensures { λ _. ⌜ now (index .exit) ≡ indexAfter board code (depthOf «has_depth» depth) (startRule (startOf «by_list») (now (list .entry))) (now (index .entry)) (length (now (totals .entry))) ⌝ }
+    ensures { λ _. ⌜ now (totals .exit) ≡ totalsAfter board code (depthOf «has_depth» depth) (startRule (startOf «by_list») (now (list .entry))) (length (now (index .entry))) (now (totals .entry)) ⌝ }
+{
+    let limit = depth_of(has_depth, depth);
+    let start = start_of(by_list);
+    build::build(board, code, limit, start, list, index, totals)
+}
+
+#[no_mangle]
+pub extern "C" fn flowpewter_build_default(
+    board: Board,
+    index: &mut [u32],
+    totals: &mut [i64],
+) -> Built
+    ensures { λ r. ⌜ r ≡ builtOf board 0 None parentZero (length (now (index .entry))) (length (now (totals .entry))) ⌝ }
+    ensures { λ _. ⌜ now (index .exit) ≡ indexAfter board 0 None parentZero (now (index .entry)) (length (now (totals .entry))) ⌝ }
+    ensures { λ _. ⌜ now (totals .exit) ≡ totalsAfter board 0 None parentZero (length (now (index .entry))) (now (totals .entry)) ⌝ }
+{
+    build::build_default(board, index, totals)
 }
 
 // A returned part of a slice can't be exported: the caller cuts it out by start and length.

@@ -1,4 +1,4 @@
-//! Builds by the fast Rust that the library is measured against, and the library's navigation of what they leave.
+//! Builds, and navigation of what they leave.
 
 use crate::edits::board;
 use crate::tally::Tally;
@@ -10,7 +10,8 @@ use generate::{
 };
 use reference::{build_board, Built};
 
-/// One build by the reference and by the fast Rust. Answers the case with its slices as they are afterwards.
+/// One build on both sides, and by the fast Rust that the library is measured against. Answers the case with its
+/// slices as they are afterwards.
 pub fn compare(
     reference: &reference::Board,
     case: &BuildCase,
@@ -25,8 +26,19 @@ pub fn compare(
     let library = board(reference);
     let list = case.start.as_deref();
     let (mut index, mut totals) = (case.index.clone(), case.totals.clone());
+    let built = sys::build(&library, code, depth, list, &mut index, &mut totals);
+    same(case, expected, &after, (built.refusal, built.nodes, built.left), &index, &totals);
+
+    let (mut index, mut totals) = (case.index.clone(), case.totals.clone());
     let built = fast::build(&library, code, depth, list, &mut index, &mut totals);
     same(case, expected, &after, (built.refusal, built.nodes, built.left), &index, &totals);
+
+    if code == 0 && depth.is_none() && list.is_none() {
+        let (mut index, mut totals) = (case.index.clone(), case.totals.clone());
+        let built = sys::build_default(&library, &mut index, &mut totals);
+        same(case, expected, &after, (built.refusal, built.nodes, built.left), &index, &totals);
+        tally.note("build_default", expected.refusal);
+    }
     (expected, after)
 }
 

@@ -3,16 +3,8 @@
 //! Links and an explicit stack: rows of one numeral are a class, the children of a class are a range of the rows in
 //! sibling order, and a mark per class tells whether it stands on the path. Nothing is allocated.
 
-use flowpewter::sys::{Edited, Listed};
+use flowpewter::sys::{Built, Edited, Listed};
 use flowpewter::{Board, Entry, Row, BODY, CONTENTS, MAX_KEPT, MAX_NODES, MAX_ROWS};
-
-/// What a build answers.
-#[derive(Clone, Copy, Debug, PartialEq, Eq)]
-pub struct Built {
-    pub refusal: u32,
-    pub nodes: u32,
-    pub left: u32,
-}
 
 /// Stands for no class.
 const NONE: u16 = u16::MAX;

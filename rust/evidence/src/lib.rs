@@ -6,6 +6,7 @@
 #![forbid(unsafe_code)]
 
 pub mod builds;
+pub mod databases;
 pub mod edits;
 pub mod fast;
 pub mod navigation;

@@ -1,4 +1,4 @@
-//! The fast Rust builds against the reference, and the library on what they leave.
+//! Builds against the reference.
 
 use evidence::builds::{self, CODES};
 use evidence::Tally;
@@ -13,6 +13,7 @@ fn builds_of_generated_rows() {
     }
     println!("{tally}");
     tally.expect("build", &[0, 6, 7, 8, 9, 10, 11, 12], 30);
+    tally.expect("build_default", &[0, 9], 10);
 }
 
 #[test]

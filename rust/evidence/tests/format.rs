@@ -1,7 +1,8 @@
 //! The example of docs/INDEX-FORMAT.md.
 
-use flowpewter::{index_check, index_len, subtree_sum, totals_len, Refusal};
-use reference::{build, Row, Start};
+use flowpewter::{
+    build_with_code, index_check, index_len, subtree_sum, totals_len, Board, Refusal, Row, Start,
+};
 
 const PAGE: &str = include_str!("../../../docs/INDEX-FORMAT.md");
 
@@ -14,12 +15,13 @@ fn block(name: &str) -> Vec<i64> {
 
 #[test]
 fn index_format() -> Result<(), Refusal> {
-    let row = |row: &[i64]| Row::new(row[0] as u32, row[1] as u32, row[2] as u32, row[3] as i32);
-    let rows: Vec<Row> = block("rows").chunks(4).map(row).collect();
+    let mut board = Board::EMPTY;
+    for row in block("rows").chunks(4) {
+        board.add(Row::new(row[0] as u32, row[1] as u32, row[2] as u32, row[3] as i32))?;
+    }
     let mut index = [0; index_len(4)];
     let mut totals = [0; totals_len(4)];
-    let built = build(&rows, 3, None, Start::ParentZero, &mut index, &mut totals);
-    assert_eq!(built.refusal, 0);
+    build_with_code(&board, 3, None, Start::ParentZero, &mut index, &mut totals)?;
     assert_eq!(index.map(i64::from).to_vec(), block("index"));
     assert_eq!(totals.to_vec(), block("totals"));
     assert!(index_check(&index));

@@ -1,6 +1,7 @@
 //! Parts lists with undo, their forest of paths as an index, navigation and sums.
 //!
 //! * [`Board`]: rows with a parent, a numeral, an order and minutes; edits and undo.
+//! * [`build`]: the forest of a board's paths as an index, and running totals of the minutes.
 //! * [`span`], [`descendants`], [`ancestors`], [`siblings`]: navigation by rank.
 //! * [`subtree_sum`], [`path_sum`]: minutes below a node and on the way up from it.
 //! * [`index_check`]: whether a slice from anywhere is an index.
@@ -10,11 +11,13 @@
 #![deny(unsafe_code)]
 
 mod board;
+mod build;
 mod index;
 mod refusal;
 pub mod sys;
 
 pub use board::{replay, Board, Call, Entry, Row, MAX_KEPT, MAX_ROWS};
+pub use build::{build, build_with_code, Built, Cycle, Multi, Options, Orphan, Start};
 pub use index::{
     ancestors, bodies, descendants, index_check, index_len, path_sum, siblings, span, subtree_sum,
     totals_len, Ancestors, Body, BODY, CONTENTS, MAX_NODES,

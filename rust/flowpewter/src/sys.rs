@@ -23,6 +23,15 @@ pub struct Replayed {
     pub board: Board,
 }
 
+/// What a build answers: the number of nodes, and the number of rows that end no node.
+#[repr(C)]
+#[derive(Clone, Copy, Debug, PartialEq, Eq)]
+pub struct Built {
+    pub refusal: u32,
+    pub nodes: u32,
+    pub left: u32,
+}
+
 /// Where a span stands in the index slice.
 #[repr(C)]
 #[derive(Clone, Copy, Debug, PartialEq, Eq)]
@@ -70,6 +79,26 @@ extern "C" {
         refusals: *mut u32,
         refusals_len: usize,
     ) -> Replayed;
+    fn flowpewter_build(
+        board: Board,
+        code: u32,
+        has_depth: bool,
+        depth: i32,
+        by_list: bool,
+        list: *const u32,
+        list_len: usize,
+        index: *mut u32,
+        index_len: usize,
+        totals: *mut i64,
+        totals_len: usize,
+    ) -> Built;
+    fn flowpewter_build_default(
+        board: Board,
+        index: *mut u32,
+        index_len: usize,
+        totals: *mut i64,
+        totals_len: usize,
+    ) -> Built;
     fn flowpewter_span(index: *const u32, index_len: usize, rank: u32) -> Span;
     fn flowpewter_descendants(
         index: *const u32,
@@ -139,6 +168,45 @@ pub fn undo(board: &Board) -> Edited {
 
 pub fn replay(words: &[u32], refusals: &mut [u32]) -> Replayed {
     unsafe { flowpewter_replay(words.as_ptr(), words.len(), refusals.as_mut_ptr(), refusals.len()) }
+}
+
+/// Start rows are those with parent 0 where there is no list.
+pub fn build(
+    board: &Board,
+    code: u32,
+    depth: Option<i32>,
+    list: Option<&[u32]>,
+    index: &mut [u32],
+    totals: &mut [i64],
+) -> Built {
+    let numerals = list.unwrap_or(&[]);
+    unsafe {
+        flowpewter_build(
+            *board,
+            code,
+            depth.is_some(),
+            depth.unwrap_or(0),
+            list.is_some(),
+            numerals.as_ptr(),
+            numerals.len(),
+            index.as_mut_ptr(),
+            index.len(),
+            totals.as_mut_ptr(),
+            totals.len(),
+        )
+    }
+}
+
+pub fn build_default(board: &Board, index: &mut [u32], totals: &mut [i64]) -> Built {
+    unsafe {
+        flowpewter_build_default(
+            *board,
+            index.as_mut_ptr(),
+            index.len(),
+            totals.as_mut_ptr(),
+            totals.len(),
+        )
+    }
 }
 
 pub fn span(index: &[u32], rank: u32) -> Span {

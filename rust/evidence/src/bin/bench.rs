@@ -1,7 +1,8 @@
 //! Times of the library and of the same jobs in plain Rust (`evidence::fast`), taken in turn in one run, best of several.
-//! Prints one line for each job.
+//! Prints one line for each job, then the same node lists by recursive queries of the databases that are installed.
 #![forbid(unsafe_code)]
 
+use evidence::databases::DATABASES;
 use evidence::fast;
 use flowpewter::{index_len, sys, totals_len, Board, Entry, Row, MAX_NODES};
 use std::hint::black_box;
@@ -20,8 +21,28 @@ fn wide() -> Vec<Row> {
     rows
 }
 
+/// Each row below the one of half its number.
+fn tree() -> Vec<Row> {
+    (1..=1_024).map(|number| Row::new(number / 2, number, number * 7 % 13, 1)).collect()
+}
+
 fn chain() -> Vec<Row> {
     (1..=1_024).map(|number| Row::new(number - 1, number, 1, 1)).collect()
+}
+
+/// Nine numerals, each below every other: all paths close.
+fn cyclic() -> Vec<Row> {
+    let mut rows = vec![Row::new(0, 1, 1, 1)];
+    for parent in 1..=7 {
+        for numeral in 1..=7 {
+            rows.push(Row::new(parent, numeral, numeral, 1));
+        }
+    }
+    rows
+}
+
+fn small() -> Vec<Row> {
+    (1..=10).map(|number| Row::new(number / 2, number, 1, 1)).collect()
 }
 
 fn board(rows: &[Row]) -> Board {
@@ -53,6 +74,29 @@ fn race(rounds: u32, mut library: impl FnMut(), mut rust: impl FnMut()) -> (f64,
 fn print(job: &str, work: &str, (library, rust): (f64, f64)) {
     let (l, r) = (library / 1_000.0, rust / 1_000.0);
     println!("| {job} | {work} | {l:.2} | {r:.2} | {:.2} |", library / rust);
+}
+
+/// Answers the library's time in microseconds.
+fn builds(job: &str, rows: &[Row], rounds: u32) -> f64 {
+    let board = board(rows);
+    let mut index = vec![0; index_len(MAX_NODES)];
+    let mut totals = vec![0; totals_len(MAX_NODES)];
+    let (mut other, mut others) = (index.clone(), totals.clone());
+    let built = sys::build(&board, 0, None, None, &mut index, &mut totals);
+    let expected = fast::build(&board, 0, None, None, &mut other, &mut others);
+    assert_eq!(built, expected);
+    assert!(index == other && totals == others);
+    let times = race(
+        rounds,
+        || {
+            black_box(sys::build(black_box(&board), 0, None, None, &mut index, &mut totals));
+        },
+        || {
+            black_box(fast::build(black_box(&board), 0, None, None, &mut other, &mut others));
+        },
+    );
+    print(job, &format!("{} rows, {} nodes", rows.len(), built.nodes), times);
+    times.0 / 1_000.0
 }
 
 fn edits(journal: &str, kept: usize) {
@@ -117,10 +161,37 @@ fn navigation() {
     print("index check", &format!("{n} nodes"), times);
 }
 
+/// The node list as a recursive query; `library` is the time of the whole build in microseconds.
+fn queries(job: &str, rows: &[Row], library: f64) {
+    for database in DATABASES {
+        match database.time(rows) {
+            None => println!(
+                "| {job} | {} isn't installed or doesn't answer: left out | | |",
+                database.name
+            ),
+            Some((time, nodes)) => println!(
+                "| {job} | {}, {nodes} nodes | {time:.1} | {:.0} |",
+                database.name,
+                1_000.0 * time / library
+            ),
+        }
+    }
+}
+
 fn main() {
     println!("| job | work | library, µs | Rust, µs | library / Rust |");
     println!("|---|---|---|---|---|");
+    let wide_time = builds("build, wide", &wide(), 1);
+    let tree_time = builds("build, tree", &tree(), 20);
+    builds("build, chain", &chain(), 20);
+    builds("build, cyclic", &cyclic(), 20);
+    builds("build, small", &small(), 200);
     edits("room in the journal", 100);
     edits("full journal", 256);
     navigation();
+    println!();
+    println!("| node list | by | query, ms | query / library's build |");
+    println!("|---|---|---|---|");
+    queries("wide", &wide(), wide_time);
+    queries("tree", &tree(), tree_time);
 }

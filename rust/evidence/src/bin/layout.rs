@@ -1,6 +1,6 @@
 //! Prints size, alignment and field offsets of each struct; `tests/layout.c` prints those of the header.
 
-use flowpewter::sys::{Climbed, Edited, Listed, Replayed, Span, Summed};
+use flowpewter::sys::{Built, Climbed, Edited, Listed, Replayed, Span, Summed};
 use flowpewter::{Board, Entry, Row};
 use std::mem::{align_of, offset_of, size_of};
 
@@ -17,6 +17,7 @@ fn main() {
     layout!("board", Board, count rows kept journal);
     layout!("edited", Edited, board refusal);
     layout!("replayed", Replayed, refusal calls board);
+    layout!("built", Built, refusal nodes left);
     layout!("span_answer", Span, refusal start words);
     layout!("listed", Listed, refusal len);
     layout!("climbed", Climbed, refusal len links);

@@ -1,0 +1,62 @@
+/* How many drawing minutes hang under numeral 40? A pump whose valve, numeral 40, is shown in three places. */
+#include "flowpewter.h"
+#include <inttypes.h>
+#include <stdio.h>
+
+enum { NODES = 100 };
+
+/* Parent, numeral, order on the sheet, drawing minutes. */
+static const flowpewter_row pump[] = {
+    {0, 10, 1, 90},  /* pump */
+    {10, 20, 1, 45}, /* housing */
+    {10, 30, 2, 60}, /* cover */
+    {10, 40, 3, 30}, /* valve, beside the pump */
+    {20, 40, 1, 12}, /* valve, in the housing */
+    {30, 40, 1, 15}, /* valve, in the cover */
+    {40, 41, 1, 8},  /* spring */
+    {40, 42, 2, 6},  /* seat */
+    {42, 43, 1, -2}, /* seal, taken over from an older drawing */
+};
+
+static int refused(uint32_t refusal) {
+    fprintf(stderr, "refused %" PRIu32 "\n", refusal);
+    return 1;
+}
+
+int main(void) {
+    static uint32_t index[FLOWPEWTER_CONTENTS + FLOWPEWTER_BODY * NODES];
+    static int64_t totals[NODES + 1];
+    const size_t index_len = sizeof index / sizeof index[0];
+    const size_t totals_len = sizeof totals / sizeof totals[0];
+
+    flowpewter_board board = flowpewter_empty();
+    for (size_t i = 0; i < sizeof pump / sizeof pump[0]; i++) {
+        flowpewter_edited edited = flowpewter_add(board, pump[i]);
+        if (edited.refusal != 0) {
+            return refused(edited.refusal);
+        }
+        board = edited.board;
+    }
+
+    flowpewter_built built = flowpewter_build_default(board, index, index_len, totals, totals_len);
+    if (built.refusal != 0) {
+        return refused(built.refusal);
+    }
+    printf("%" PRIu32 " nodes, %" PRIu32 " rows left over\n", built.nodes, built.left);
+
+    int64_t minutes = 0;
+    for (uint32_t rank = 1; rank <= built.nodes; rank++) {
+        const uint32_t *body = index + FLOWPEWTER_CONTENTS + FLOWPEWTER_BODY * (rank - 1);
+        if (body[0] == 40) {
+            flowpewter_summed summed = flowpewter_subtree_sum(index, index_len, totals, totals_len, rank);
+            if (summed.refusal != 0) {
+                return refused(summed.refusal);
+            }
+            printf("numeral 40 at rank %" PRIu32 ", level %" PRIu32 ": %" PRId64 " minutes\n", rank, body[5] & 0xffff,
+                   summed.sum);
+            minutes += summed.sum;
+        }
+    }
+    printf("%" PRId64 " drawing minutes hang under numeral 40\n", minutes);
+    return 0;
+}

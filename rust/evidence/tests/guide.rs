@@ -1,0 +1,86 @@
+//! The guide's examples through the library.
+
+use flowpewter::{build_with_code, Board, Refusal};
+use guide::{Engine, Image};
+use reference::{Row, Start};
+
+struct Library;
+
+const NODES: usize = 1_000;
+
+fn number(refusal: Refusal) -> u32 {
+    refusal.number()
+}
+
+impl Engine for Library {
+    fn build(
+        &self,
+        rows: &[Row],
+        code: u32,
+        depth: Option<i32>,
+        start: Start,
+    ) -> Result<Image, u32> {
+        let mut board = Board::EMPTY;
+        for row in rows {
+            let row = flowpewter::Row::new(row.parent, row.numeral, row.order, row.minutes);
+            board.add(row).map_err(number)?;
+        }
+        let start = match start {
+            Start::ParentZero => flowpewter::Start::ParentZero,
+            Start::Numerals(list) => flowpewter::Start::Numerals(list),
+        };
+        let mut index = vec![0; flowpewter::index_len(NODES)];
+        let mut totals = vec![0; flowpewter::totals_len(NODES)];
+        let built =
+            build_with_code(&board, code, depth, start, &mut index, &mut totals).map_err(number)?;
+        assert_eq!(built.nodes, index[0]);
+        Ok(Image { index, totals, left: built.left })
+    }
+
+    fn descendants(
+        &self,
+        index: &[u32],
+        rank: u32,
+        lower: i32,
+        upper: i32,
+    ) -> Result<Vec<u32>, u32> {
+        let mut list = vec![0; NODES];
+        let ranks = flowpewter::descendants(index, rank, lower..=upper, &mut list);
+        ranks.map(<[u32]>::to_vec).map_err(number)
+    }
+
+    fn ancestors(
+        &self,
+        index: &[u32],
+        rank: u32,
+        lower: i32,
+        upper: i32,
+    ) -> Result<(Vec<u32>, u32), u32> {
+        let mut list = vec![0; NODES];
+        let found = flowpewter::ancestors(index, rank, lower..=upper, &mut list);
+        found.map(|found| (found.ranks.to_vec(), found.links as u32)).map_err(number)
+    }
+
+    fn siblings(&self, index: &[u32], rank: u32) -> Result<Vec<u32>, u32> {
+        let mut list = vec![0; NODES];
+        flowpewter::siblings(index, rank, &mut list).map(<[u32]>::to_vec).map_err(number)
+    }
+
+    fn span(&self, index: &[u32], rank: u32) -> Result<Vec<u32>, u32> {
+        flowpewter::span(index, rank).map(<[u32]>::to_vec).map_err(number)
+    }
+
+    fn subtree_sum(&self, index: &[u32], totals: &[i64], rank: u32) -> Result<i64, u32> {
+        flowpewter::subtree_sum(index, totals, rank).map_err(number)
+    }
+
+    fn path_sum(&self, index: &[u32], totals: &[i64], rank: u32) -> Result<i64, u32> {
+        flowpewter::path_sum(index, totals, rank).map_err(number)
+    }
+
+    fn index_check(&self, index: &[u32]) -> bool {
+        flowpewter::index_check(index)
+    }
+}
+
+guide::run_examples!(Library);

@@ -1,0 +1,43 @@
+//! How many drawing minutes hang under numeral 40? A pump whose valve, numeral 40, is shown in three places.
+#![forbid(unsafe_code)]
+
+use flowpewter::{
+    bodies, build, index_len, span, subtree_sum, totals_len, Board, Options, Refusal, Row,
+};
+
+/// Parent, numeral, order on the sheet, drawing minutes.
+const PUMP: [Row; 9] = [
+    Row::new(0, 10, 1, 90),  // pump
+    Row::new(10, 20, 1, 45), // housing
+    Row::new(10, 30, 2, 60), // cover
+    Row::new(10, 40, 3, 30), // valve, beside the pump
+    Row::new(20, 40, 1, 12), // valve, in the housing
+    Row::new(30, 40, 1, 15), // valve, in the cover
+    Row::new(40, 41, 1, 8),  // spring
+    Row::new(40, 42, 2, 6),  // seat
+    Row::new(42, 43, 1, -2), // seal, taken over from an older drawing
+];
+
+fn main() -> Result<(), Refusal> {
+    let mut board = Board::EMPTY;
+    for row in PUMP {
+        board.add(row)?;
+    }
+
+    let mut index = [0; index_len(100)];
+    let mut totals = [0; totals_len(100)];
+    let built = build(&board, &Options::default(), &mut index, &mut totals)?;
+    println!("{} nodes, {} rows left over", built.nodes, built.left);
+
+    // The pump is the only root, so that its span is the whole forest.
+    let mut minutes = 0;
+    for (rank, body) in (1..).zip(bodies(span(&index, 1)?)) {
+        if body.numeral == 40 {
+            let sum = subtree_sum(&index, &totals, rank)?;
+            println!("numeral 40 at rank {rank}, level {}: {sum} minutes", body.level);
+            minutes += sum;
+        }
+    }
+    println!("{minutes} drawing minutes hang under numeral 40");
+    Ok(())
+}

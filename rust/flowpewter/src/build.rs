@@ -1,0 +1,139 @@
+//! The build: the forest of a board's paths as an index, and the running totals.
+#![forbid(unsafe_code)]
+
+use crate::board::Board;
+use crate::refusal::Refusal;
+use crate::sys;
+
+/// What becomes of rows that no path from a start row reaches.
+#[derive(Clone, Copy, Debug, PartialEq, Eq, Hash, Default)]
+pub enum Orphan {
+    /// They are left over.
+    #[default]
+    Ignore = 0,
+    /// The build is refused.
+    Error = 1,
+    /// Those without a parent among the rows hang from the last start row, and what is below them follows.
+    Adopt = 2,
+    /// Those without a parent among the rows are roots after all others, and what is below them follows.
+    Root = 3,
+}
+
+/// Whether nodes may share a numeral.
+#[derive(Clone, Copy, Debug, PartialEq, Eq, Hash, Default)]
+pub enum Multi {
+    /// They may.
+    #[default]
+    Allow = 0,
+    /// Only nodes with nothing below them may.
+    Leaves = 1,
+    /// The build is refused if any do.
+    Error = 2,
+}
+
+/// What becomes of a path that comes back to a numeral it has.
+#[derive(Clone, Copy, Debug, PartialEq, Eq, Hash, Default)]
+pub enum Cycle {
+    /// It ends there, with a closing node.
+    #[default]
+    BreakUp = 0,
+    /// The build is refused.
+    Error = 1,
+}
+
+/// Which rows paths start from.
+#[derive(Clone, Copy, Debug, PartialEq, Eq, Hash, Default)]
+pub enum Start<'a> {
+    /// Rows with parent 0.
+    #[default]
+    ParentZero,
+    /// Rows whose numeral is in the list.
+    Numerals(&'a [u32]),
+}
+
+/// How to build. The default ignores orphans, allows shared numerals, breaks up cycles, has no depth and starts from
+/// rows with parent 0.
+#[derive(Clone, Copy, Debug, PartialEq, Eq, Hash, Default)]
+pub struct Options<'a> {
+    pub orphan: Orphan,
+    pub multi: Multi,
+    pub cycle: Cycle,
+    /// With depth d a path has at most d + 1 rows; a negative d gives no path.
+    pub depth: Option<i32>,
+    pub start: Start<'a>,
+}
+
+impl Options<'_> {
+    /// The option code of the three choices.
+    ///
+    /// ```
+    /// use flowpewter::{Cycle, Options, Orphan};
+    ///
+    /// let options = Options { orphan: Orphan::Root, cycle: Cycle::Error, ..Options::default() };
+    /// assert_eq!(options.code(), 15);
+    /// ```
+    pub fn code(&self) -> u32 {
+        self.orphan as u32 + 4 * self.multi as u32 + 12 * self.cycle as u32
+    }
+}
+
+/// The number of nodes, and the number of rows that end no node.
+#[derive(Clone, Copy, Debug, PartialEq, Eq, Hash)]
+pub struct Built {
+    pub nodes: u32,
+    pub left: u32,
+}
+
+/// Builds the index of a board and its running totals into the two slices; words beyond stay.
+/// Refused with 1 or 6 to 12, and then both slices are zeroed.
+///
+/// ```
+/// use flowpewter::{build, index_len, subtree_sum, totals_len, Board, Built, Options, Refusal, Row};
+///
+/// let mut board = Board::EMPTY;
+/// board.add(Row::new(0, 10, 1, 30))?;
+/// board.add(Row::new(10, 40, 1, 12))?;
+/// let mut index = [0; index_len(2)];
+/// let mut totals = [0; totals_len(2)];
+/// let built = build(&board, &Options::default(), &mut index, &mut totals)?;
+/// assert_eq!(built, Built { nodes: 2, left: 0 });
+/// assert_eq!(subtree_sum(&index, &totals, 1)?, 42);
+///
+/// let refused = build(&board, &Options::default(), &mut index[..19], &mut totals);
+/// assert_eq!(refused, Err(Refusal::TooManyNodes));
+/// assert_eq!(totals, [0; 3]);
+/// # Ok::<(), Refusal>(())
+/// ```
+pub fn build(
+    board: &Board,
+    options: &Options<'_>,
+    index: &mut [u32],
+    totals: &mut [i64],
+) -> Result<Built, Refusal> {
+    build_with_code(board, options.code(), options.depth, options.start, index, totals)
+}
+
+/// As [`build`], by an option code that may come from anywhere.
+///
+/// ```
+/// use flowpewter::{build_with_code, Board, Refusal, Start};
+///
+/// let refused = build_with_code(&Board::EMPTY, 24, None, Start::ParentZero, &mut [0; 8], &mut [0]);
+/// assert_eq!(refused, Err(Refusal::UnknownCode));
+/// ```
+pub fn build_with_code(
+    board: &Board,
+    code: u32,
+    depth: Option<i32>,
+    start: Start<'_>,
+    index: &mut [u32],
+    totals: &mut [i64],
+) -> Result<Built, Refusal> {
+    let list = match start {
+        Start::ParentZero => None,
+        Start::Numerals(list) => Some(list),
+    };
+    let built = sys::build(board, code, depth, list, index, totals);
+    Refusal::check(built.refusal)?;
+    Ok(Built { nodes: built.nodes, left: built.left })
+}
