@@ -31,10 +31,10 @@ compile layout tests/layout.c
 cargo run --offline --release --quiet --manifest-path rust/Cargo.toml --bin layout >"$out/layout.rust.out"
 same "layouts in C and Rust" "$out/layout.c.out" "$out/layout.rust.out"
 
-compile pump examples/c/pump.c
-"$out/pump" >"$out/pump.c.out"
-cargo run --offline --release --quiet --manifest-path rust/Cargo.toml --example pump >"$out/pump.rust.out"
-same "the pump in C and its listing" "$out/pump.c.out" examples/pump.out
-same "the pump in Rust and its listing" "$out/pump.rust.out" examples/pump.out
+compile valve examples/c/valve.c
+"$out/valve" >"$out/valve.c.out"
+cargo run --offline --release --quiet --manifest-path rust/Cargo.toml --example valve >"$out/valve.rust.out"
+same "the valve in C and its listing" "$out/valve.c.out" examples/valve.out
+same "the valve in Rust and its listing" "$out/valve.rust.out" examples/valve.out
 
 echo "tests: all passed"
