@@ -35,7 +35,7 @@ wholeOf done code depth starts index totals rank lower upper out =
       summed = subtreeAnswer left (totalsAfter (done .board) code depth starts (length index) totals) rank;
     }
 
--- `answer` and the five lent slices afterwards are those that the contract of `replay_all` gives
+-- `answer` and the four lent slices afterwards are those that the contract of `replay_all` gives
 pub record Runs (words refusals : List ℕ) (code : ℕ) (depth : Depth) (rule : Start) (list index : List ℕ) (totals : List ℤ) (rank : ℕ) (lower upper : ℤ) (out : List ℕ)
     (answer : Whole) (refusals' index' : List ℕ) (totals' : List ℤ) (out' : List ℕ) : Type 0 where
   pub whole : answer ≡ wholeOf (replayedOf words (length refusals)) code depth (startRule rule list) index totals rank lower upper out
