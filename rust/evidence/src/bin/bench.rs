@@ -30,7 +30,7 @@ fn chain() -> Vec<Row> {
     (1..=1_024).map(|number| Row::new(number - 1, number, 1, 1)).collect()
 }
 
-/// Nine numerals, each below every other: all paths close.
+/// Seven numerals, each below every one of them: all paths close.
 fn cyclic() -> Vec<Row> {
     let mut rows = vec![Row::new(0, 1, 1, 1)];
     for parent in 1..=7 {
