@@ -8,24 +8,24 @@ use generate::Random;
 fn builds_of_generated_rows() {
     let mut random = Random::announced("builds", 61);
     let mut tally = Tally::new();
-    for _ in 0..3_000 {
+    for _ in 0..12_000 {
         builds::cases(&mut random, &mut tally);
     }
     println!("{tally}");
-    tally.expect("build", &[0, 6, 7, 8, 9, 10, 11, 12], 30);
-    tally.expect("build_default", &[0, 9], 10);
+    tally.expect("build", &[0, 6, 7, 8, 9, 10, 11, 12], 200);
+    tally.expect("build_default", &[0, 9], 60);
 }
 
 #[test]
 fn every_code() {
     let mut random = Random::announced("codes", 62);
     let mut tally = Tally::new();
-    for _ in 0..80 {
+    for _ in 0..400 {
         builds::codes(&mut random, &mut tally);
     }
     println!("{tally}");
     for code in CODES {
-        tally.expect(code, &[0], 5);
+        tally.expect(code, &[0], 100);
     }
 }
 
@@ -33,11 +33,11 @@ fn every_code() {
 fn unsound_boards() {
     let mut random = Random::announced("unsound boards", 63);
     let mut tally = Tally::new();
-    for _ in 0..30 {
+    for _ in 0..100 {
         builds::unsound(&mut random, &mut tally);
     }
     println!("{tally}");
-    tally.expect("build", &[1], 300);
+    tally.expect("build", &[1], 1_000);
 }
 
 #[test]

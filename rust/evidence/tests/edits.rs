@@ -7,7 +7,7 @@ use generate::{Random, HISTORIES};
 fn histories() {
     let mut random = Random::announced("histories", 41);
     let mut tally = Tally::new();
-    for _ in 0..25 {
+    for _ in 0..100 {
         for kind in HISTORIES {
             edits::histories(&mut random, kind, &mut tally);
         }
@@ -37,11 +37,11 @@ fn boards_that_no_history_makes() {
 fn replays() {
     let mut random = Random::announced("replays", 43);
     let mut tally = Tally::new();
-    for _ in 0..60 {
+    for _ in 0..400 {
         for kind in HISTORIES {
             edits::replays(&mut random, kind, &mut tally);
         }
     }
     println!("{tally}");
-    tally.expect("replay", &[0, 101, 102, 103], 10);
+    tally.expect("replay", &[0, 101, 102, 103], 100);
 }
