@@ -37,4 +37,7 @@ cargo run --offline --release --quiet --manifest-path rust/Cargo.toml --example 
 same "the valve in C and its listing" "$out/valve.c.out" examples/valve.out
 same "the valve in Rust and its listing" "$out/valve.rust.out" examples/valve.out
 
+compile stack tests/stack.c
+"$out/stack"
+
 echo "tests: all passed"
