@@ -34,13 +34,18 @@ for input in examples/*.txt; do
     case_of "$input" "$input" "${input%.txt}.out"
 done
 
+# 1,025 rows, then a line that is none: the row over the limit is refused before that line is read
+awk 'BEGIN { for (i = 1; i <= 1025; i++) print 0, i, 1, 1; print "no row" }' >"$work/rows-1025.in"
+echo "refused 3" >"$work/rows-1025.out"
+case_of "1025 rows" "$work/rows-1025.in" "$work/rows-1025.out"
+
 # count NAME INPUT LINES NODES: the input's first lines give that many nodes, the most that fit
 count() {
     head -n "$3" "$2" | "$program" | wc -l | tr -d ' ' >"$work/out"
     echo $(($4 + 1)) >"$work/lines"
     compare "$1" "$work/lines"
 }
-count "1024 rows" tests/cases/rows-1025.in 1024 1024
+count "1024 rows" "$work/rows-1025.in" 1024 1024
 count "2700 nodes" tests/cases/nodes-2701.in 41 2700
 
 if [ "$wrong" -ne 0 ]; then
