@@ -256,7 +256,7 @@ fn run(
 }
 
 // The build of n rows, in working arrays of its own.
-fn work(
+fn build_rows(
     rows: [Row; 1024],
     n: usize,
     code: u32,
@@ -338,7 +338,7 @@ fn attempt(
     }
     let rows = board.rows;
     let n = board.count;
-    work(rows, n, code, depth, start, list, index, totals)
+    build_rows(rows, n, code, depth, start, list, index, totals)
 }
 
 // Builds the index of a board and its running totals. A refused build leaves both slices all zero.

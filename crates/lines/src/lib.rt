@@ -66,7 +66,7 @@ impl Scan {
     }
 
     // One more digit. The number so far is tested before it grows, so it can't wrap.
-    pub fn digit(self, d: u64) -> Step
+    fn digit(self, d: u64) -> Step
         requires { ⌜ d < 10 ⌝ }
         ensures { λ r. ⌜ r ≡ digitOf self d ⌝ }
     {
@@ -113,7 +113,7 @@ impl Scan {
     }
 
     // A space: one of the first three fields has ended.
-    pub fn space(self) -> Step
+    fn space(self) -> Step
         ensures { λ r. ⌜ r ≡ spaceOf self ⌝ }
     {
         let v = (self.value % 4294967296) as u32;
@@ -158,7 +158,7 @@ impl Scan {
     }
 
     // A minus sign: the first byte of the last field.
-    pub fn minus(self) -> Step
+    fn minus(self) -> Step
         ensures { λ r. ⌜ r ≡ minusOf self ⌝ }
     {
         let field = self.field;

@@ -44,8 +44,8 @@ returns-3 c =
     let seven = ap (λ (x : Choice). refusal7 (x .orphan) (c .before .before .before .before .before .before .before .before .before .args .depth)) (sym (c .before .before .before .choices .ensures)) ∙ sym (c .before .before .is-depth-refused .ensures) ∙ c .before .if3 .taken in
     attempt-as _ _ _ _ _ _ _ _ 7 _ (c .refused3 .ensures) (attempt-sound _ _ _ _ _ _ _ _ 7 y (by-seven _ _ _ _ _ _ (le-ltb 23 (c .before .before .before .before .before .before .before .before .before .args .code) (c .before .before .before .before .if2 .left)) seven) (λ z. absurd (omega arith)))
 
-work-requires : tie.Need-work-requires
-work-requires c κs =
+build-rows-requires : tie.Need-build-rows-requires
+build-rows-requires c κs =
     let y = sym (c .before .before .before .before .before .before .before .before .sound .ensures) ∙ not-false (c .before .before .before .before .before .before .before .before .sound .result) (c .before .before .before .before .before .before .before .if1 .left) in
     let seven = ap (λ (x : Choice). refusal7 (x .orphan) (c .before .before .before .before .before .before .before .before .before .before .before .args .depth)) (sym (c .before .before .before .before .before .choices .ensures)) ∙ sym (c .before .before .before .before .is-depth-refused .ensures) ∙ c .before .before .before .if3 .left in
     (sound-count _ y, le-ltb 23 (c .before .before .before .before .before .before .before .before .before .before .before .args .code) (c .before .before .before .before .before .before .if2 .left), seven, sound-numbered _ y)
@@ -59,7 +59,7 @@ same-length-2 c = search needs
 returns-4 : tie.Need-returns-4
 returns-4 c =
     let y = sym (c .before .before .before .before .before .before .before .before .before .before .before .before .sound .ensures) ∙ not-false (c .before .before .before .before .before .before .before .before .before .before .before .before .sound .result) (c .before .before .before .before .before .before .before .before .before .before .before .if1 .left) in
-    attempt-ran _ _ _ _ _ _ _ _ _ y (c .before .before .before .work .ensures)
+    attempt-ran _ _ _ _ _ _ _ _ _ y (c .before .before .before .build-rows .ensures)
 
 pub attempt-spec : {M : Type 1} → statement M
 attempt-spec =
@@ -74,7 +74,7 @@ attempt-spec =
     is-depth-refused-requires
     refused-requires-3
     returns-3
-    work-requires
+    build-rows-requires
     same-length
     same-length-2
     returns-4)

@@ -7,8 +7,8 @@ use Rattle.build.specs.BuildLaws.{take-replicate, ran-rows}
 use borrow.Author.Needs.{needs}
 use native.Mathlib.Omega.{arith}
 use Prim.Native.Nat.{ℕ, _≤_, _-_}
-use Rattle.build.proofs.work.Statement.{statement}
-use Rattle.build.proofs.work.Tie as tie
+use Rattle.build.proofs.build_rows.Statement.{statement}
+use Rattle.build.proofs.build_rows.Tie as tie
 
 array-borrow-prefix-minutes : tie.Need-array-borrow-prefix-minutes
 array-borrow-prefix-minutes c = search needs
@@ -154,8 +154,8 @@ returns c =
     let s = c .before .before .before .before .before .before .before .before .before .before .before .before .before .before .before .before .before .before .before .before .before .before .before .before .before .before .before .before .before .before .before .before .before .before .before .before .before .before .before .before .before .before in
     ran-rows _ _ _ _ _ _ _ _ _ _ _ (length-take-le _ _ (s .pre .0)) (c .before .before .before .before .before .before .before .before .before .before .before .before .before .before .before .before .before .before .before .before .run .ensures)
 
-pub work-spec : {M : Type 1} → statement M
-work-spec =
+pub build-rows-spec : {M : Type 1} → statement M
+build-rows-spec =
     tie.close
     (tie.spec
     array-borrow-prefix-minutes
