@@ -1,18 +1,86 @@
--- How a slice is shown to be accepted: the conditions put together, and what an image that was written fulfils by itself. Assumes nothing.
+-- How a slice is shown to be accepted: what is asked of each rank, put together from what its words say as a root or as a child, and what an image that was written
+-- fulfils by itself. Assumes nothing.
 use mathlib.Core.Path.{_≡_, sym, ap, _∙_}
-use mathlib.Core.Bool.{Bool, true, false}
+use mathlib.Core.Logic.{_⊎_, ⊎-elim}
+use mathlib.Core.Bool.{Bool, true, false, cond}
 use mathlib.Core.List.{List}
-use Prim.Native.Nat.{ℕ, _*_, _-_, _/_, _%_, _^_, _≤_}
+use Prim.Native.Nat.{ℕ, _+_, _*_, _-_, _/_, _%_, _^_, _≤_, _<_}
 use native.Mathlib.Omega.{arith}
+use lib.Dec.{leb, eqb}
 use lib.ListN.{length, getD, take, drop}
 use lib.Seq.{take-append-seam}
-use borrow.Author.Tests.{eq-eqb}
-use Rattle.lists.specs.Ranges.{all-of}
-use Rattle.image.specs.Layout.{nodeCount, wordAt, packed, flat, checked, contentsWords, imageWords, badContents}
+use borrow.Author.Tests.{eq-eqb, ne-eqb, le-leb}
+use Rattle.lists.specs.Ranges.{all-of, largest-here, largest-below}
+use Rattle.image.specs.Layout.{nodeCount, sizeAt, parentAt, rootAt, wordAt, levelAt, packed, flat, checked, contentsWords, imageWords, bodyOf, badContents}
 use Rattle.image.specs.ImageLaws.{Holds, node-count-read, contents-read, contents-hold, word-packed, length-flat}
 use Rattle.image.specs.declared.Body.{Body}
-use Rattle.index_check.specs.IndexCheck.{zerosRight, checkRight, sizeRight, endRight, parentRight, levelRight, rootRight, bitsRight, rankRight, accepts}
-use Rattle.index_check.specs.RankLaws.{Right}
+use Rattle.navigate.specs.Navigate.{endOf}
+use Rattle.index_check.specs.IndexCheck.{contains, parentOf, zerosRight, checkRight, sizeRight, endRight, parentRight, levelRight, rootRight, bitsRight, rankRight, accepts}
+use Rattle.index_check.specs.RankLaws.{Right, contains-yes, contains-out, contains-no}
+
+-- ---- a rank's words beside those of lower ranks
+
+-- rank k is a root: the interval of no lower rank contains it
+pub record RootRank (s : List ℕ) (k : ℕ) : Type 0 where
+  pub parent : parentAt s k ≡ 0
+  pub alone : (r : ℕ) → 1 ≤ r → r < k → k < r + sizeAt s r → ⊥
+  pub end : endOf s k ≤ nodeCount s
+  pub level : levelAt s k ≡ 1
+  pub root : rootAt s k ≡ k
+
+-- rank k is the child of a lower rank, the largest whose interval contains it
+pub record ChildRank (s : List ℕ) (k : ℕ) : Type 0 where
+  pub some : 1 ≤ parentAt s k
+  pub below : parentAt s k < k
+  pub largest : (r : ℕ) → 1 ≤ r → r < k → k < r + sizeAt s r → r ≤ parentAt s k
+  pub end : k + sizeAt s k ≤ parentAt s k + sizeAt s (parentAt s k)
+  pub level : levelAt s k ≡ levelAt s (parentAt s k) + 1
+  pub root : rootAt s k ≡ rootAt s (parentAt s k)
+
+module _ (s : List ℕ) (k : ℕ) (low : 1 ≤ k) (size : 1 ≤ sizeAt s k) (bits : bitsRight s k ≡ true) where
+  pub root-is-right : RootRank s k → Right s k
+  unfolding sizeRight endRight parentRight levelRight rootRight
+  root-is-right r = record {
+    size = le-leb 1 (sizeAt s k) size;
+    end = ap (λ (t : Bool). leb (endOf s k) (cond t (nodeCount s) (endOf s (parentAt s k)))) z ∙ le-leb (endOf s k) (nodeCount s) (r .end);
+    parent = eq-eqb (parentAt s k) (parentOf s k) (r .parent ∙ sym none);
+    level = ap (λ (t : Bool). eqb (levelAt s k) (cond t 1 (levelAt s (parentAt s k) + 1))) z ∙ eq-eqb (levelAt s k) 1 (r .level);
+    root = ap (λ (t : Bool). eqb (rootAt s k) (cond t k (rootAt s (parentAt s k)))) z ∙ eq-eqb (rootAt s k) k (r .root);
+    bits = bits;
+  }
+    where
+      z : eqb (parentAt s k) 0 ≡ true
+      z = eq-eqb (parentAt s k) 0 (r .parent)
+
+      none : parentOf s k ≡ 0
+      none =
+          largest-below (λ i. contains s i k) (k - 1) 0 (omega arith)
+          (λ i a b. contains-no s i k (λ t. r .alone i (omega arith) (omega arith) (contains-out s i k t .1)))
+
+  pub child-is-right : ChildRank s k → Right s k
+  unfolding sizeRight endRight parentRight levelRight rootRight
+  child-is-right r = record {
+    size = le-leb 1 (sizeAt s k) size;
+    end = ap (λ (t : Bool). leb (endOf s k) (cond t (nodeCount s) (endOf s q))) z ∙ le-leb (endOf s k) (endOf s q) (omega (arith, r .end));
+    parent = eq-eqb q (parentOf s k) (sym most);
+    level = ap (λ (t : Bool). eqb (levelAt s k) (cond t 1 (levelAt s q + 1))) z ∙ eq-eqb (levelAt s k) (levelAt s q + 1) (r .level);
+    root = ap (λ (t : Bool). eqb (rootAt s k) (cond t k (rootAt s q))) z ∙ eq-eqb (rootAt s k) (rootAt s q) (r .root);
+    bits = bits;
+  }
+    where
+      q : ℕ
+      q = parentAt s k
+
+      z : eqb (parentAt s k) 0 ≡ false
+      z = ne-eqb (parentAt s k) 0 (λ e. omega (arith, r .some))
+
+      most : parentOf s k ≡ parentAt s k
+      most =
+          largest-below (λ i. contains s i k) (k - 1) q (omega (arith, r .below))
+          (λ i a b. contains-no s i k (λ t. omega (arith, r .largest i (omega arith) (omega arith) (contains-out s i k t .1))))
+          ∙ largest-here (λ i. contains s i k) q (omega (arith, r .some)) (contains-yes s q k (omega (arith, r .below)) (omega (arith, r .end)))
+
+-- ---- all conditions together
 
 pub rank-is-right : (s : List ℕ) (k : ℕ) → Right s k → rankRight s k ≡ true
 unfolding rankRight
@@ -22,6 +90,8 @@ pub is-accepted : (s : List ℕ) → badContents s ≡ false → zerosRight s �
     → ((k : ℕ) → 1 ≤ k → k ≤ nodeCount s → Right s k) → accepts s ≡ true
 unfolding accepts
 is-accepted s a b d h = simp (a, b, d) (all-of (rankRight s) (nodeCount s) (λ k l u. rank-is-right s k (h k l u)))
+
+-- ---- an image that was written
 
 packed-bits : (l : ℕ) (c o : Bool) → packed l c o / 2 ^ 16 % 2 ^ 14 ≡ 0
 packed-bits l true true = omega arith
@@ -46,22 +116,18 @@ module _ {s : List ℕ} {bs : List Body} (h : Holds s bs) where
   unfolding checkRight contentsWords
   image-check = eq-eqb (getD s 3 0) (checked 0 (take (6 * nodeCount s) (drop 8 s))) (contents-read h 3 (omega arith) ∙ ap (checked 0) (sym body-words))
 
-  image-bits : (k : ℕ) → 1 ≤ k → k ≤ length bs → (d : Body) → bitsRight s k ≡ true
+  image-bits : (k : ℕ) → 1 ≤ k → k ≤ length bs → bitsRight s k ≡ true
   unfolding bitsRight
-  image-bits k l u d =
-      let b = getD bs (k - 1) d in
+  image-bits k l u =
+      let d : Body = bodyOf s k in
+      let b : Body = getD bs (k - 1) d in
       eq-eqb (wordAt s k / 2 ^ 16 % 2 ^ 14) 0 (ap (λ (w : ℕ). w / 2 ^ 16 % 2 ^ 14) (word-packed h k d l u) ∙ packed-bits (b .level) (b .closing) (b .orphan))
 
-  -- an image of at most 65,535 nodes is accepted where sizes, ends, parents, levels and root ranks are right
-  pub image-accepted : (d : Body) → length bs ≤ 65535
-      → ((k : ℕ) → 1 ≤ k → k ≤ length bs → sizeRight s k ≡ true)
-      → ((k : ℕ) → 1 ≤ k → k ≤ length bs → endRight s k ≡ true)
-      → ((k : ℕ) → 1 ≤ k → k ≤ length bs → parentRight s k ≡ true)
-      → ((k : ℕ) → 1 ≤ k → k ≤ length bs → levelRight s k ≡ true)
-      → ((k : ℕ) → 1 ≤ k → k ≤ length bs → rootRight s k ≡ true)
-      → accepts s ≡ true
-  image-accepted d few size end parent level root =
+  -- an image of at most 65,535 nodes is accepted where each rank's size is 1 or more and the rank is a root or a child
+  pub image-accepted : length bs ≤ 65535 → ((k : ℕ) → 1 ≤ k → k ≤ length bs → (1 ≤ sizeAt s k) × (RootRank s k ⊎ ChildRank s k)) → accepts s ≡ true
+  image-accepted few ranks =
       is-accepted s (contents-hold h few) image-zeros image-check
       (λ k l u.
       let v : k ≤ length bs = omega (arith, node-count-read h) in
-      record { size = size k l v; end = end k l v; parent = parent k l v; level = level k l v; root = root k l v; bits = image-bits k l v d })
+      let r = ranks k l v in
+      ⊎-elim (root-is-right s k l (r .0) (image-bits k l v)) (child-is-right s k l (r .0) (image-bits k l v)) (r .1))
