@@ -14,9 +14,10 @@ use Rattle.lists.specs.Stores.{front}
 use Rattle.board.specs.declared.Row.{Row}
 use Rattle.board.specs.declared.Board.{Board}
 use Rattle.board.specs.Edits.{emptyOf, rowsOf, soundOf}
+use Rattle.board.specs.Laws.{sound-count}
 use Rattle.history.specs.declared.Call.{Call}
 use Rattle.history.specs.Calls.{final}
-use Rattle.history.specs.Simulation.{simulation, final-rows, final-sound, final-valid}
+use Rattle.history.specs.Simulation.{simulation, final-rows, final-sound}
 use Rattle.options.specs.declared.Depth.{Depth}
 use Rattle.options.specs.Options.{orphanOf}
 use Rattle.image.specs.Layout.{imageWords}
@@ -60,11 +61,11 @@ module _ (R : List Row) (few : length R ≤ 1024) (code : ℕ) (depth : Depth) (
   totalsOf done = cond done (front (runningTotals R W) totals) (replicate (length totals) (pos 0))
 
   -- none of the sentences applies, so the nodes are few and the totals long enough
-  record Room : Type 0 where
-    small : length W ≤ 65535
-    long : length W + 1 ≤ length totals
+  pub record Room : Type 0 where
+    pub small : length W ≤ 65535
+    pub long : length W + 1 ≤ length totals
 
-  room : refusalOf R code depth starts (length index) (length totals) ≡ 0 → Room
+  pub room : refusalOf R code depth starts (length index) (length totals) ≡ 0 → Room
   room e =
       let l = bodies-length R starts depth o in
       let n = length (bodies R starts depth o) in
@@ -127,18 +128,18 @@ module _ (R : List Row) (few : length R ≤ 1024) (code : ℕ) (depth : Depth) (
 
 -- ---- a build on a sound board
 
-build-on : (b : Board) → soundOf b ≡ true → length (rowsOf b) ≤ 1024 → (fits : Type 0) → (fits → RowsFit (rowsOf b))
+pub sound-few : (b : Board) → soundOf b ≡ true → length (rowsOf b) ≤ 1024
+sound-few b sound = omega (arith, sound-count b sound, length-take (b .count) (b .rows))
+
+build-on : (b : Board) → soundOf b ≡ true → (fits : Type 0) → (fits → RowsFit (rowsOf b))
     → (code : ℕ) (depth : Depth) (starts : Row → Bool) (index : List ℕ) (totals : List ℤ)
     → Build (rowsOf b) fits code depth starts (builtOf b code depth starts (length index) (length totals)) index (indexAfter b code depth starts index (length totals)) totals (totalsAfter b code depth starts (length index) totals)
 unfolding buildRefusal builtOf indexAfter totalsAfter
-build-on b sound few fits f code depth starts index totals =
-    build-of (rowsOf b) few code depth starts index totals fits f (buildRefusal b code depth starts (length index) (length totals))
+build-on b sound fits f code depth starts index totals =
+    build-of (rowsOf b) (sound-few b sound) code depth starts index totals fits f (buildRefusal b code depth starts (length index) (length totals))
     (ap (λ t. cond t (refusalOf (rowsOf b) code depth starts (length index) (length totals)) 1) sound)
 
 -- ---- every list of calls
-
-final-few : (cs : List Call) → length (rowsOf (final emptyOf cs)) ≤ 1024
-final-few cs = let v = final-valid cs in omega (arith, length-take (final emptyOf cs .count) (final emptyOf cs .rows))
 
 pub guarantee : (cs : List Call) → Guarantee cs
 guarantee cs = record {
@@ -148,5 +149,5 @@ guarantee cs = record {
       let s : Row → Bool = startRule rule list in
       subst (λ R. Build R ((c : Call) → c ∈ cs → Fits c) code depth s (builtOf b code depth s (length index) (length totals)) index (indexAfter b code depth s index (length totals)) totals (totalsAfter b code depth s (length index) totals))
       (final-rows cs)
-      (build-on b (final-sound cs) (final-few cs) ((c : Call) → c ∈ cs → Fits c) (λ g. subst RowsFit (sym (final-rows cs)) (rows-fit cs g)) code depth s index totals);
+      (build-on b (final-sound cs) ((c : Call) → c ∈ cs → Fits c) (λ g. subst RowsFit (sym (final-rows cs)) (rows-fit cs g)) code depth s index totals);
 }

@@ -4,6 +4,7 @@ pub mod SentenceLaws
 pub mod MinutesLaws
 pub mod NavigationLaws
 pub mod GuaranteeLaws
+pub mod CheckedLaws
 pub mod Running
 pub mod RunningLaws
 pub mod Marked
