@@ -72,10 +72,10 @@ pub record Put (b : Body) (n start : ℕ) (index index′ : List ℕ) (r : ℕ) 
   pub written : index′ ≡ sets index (8 + 6 * n) (bodyWords b)
 
 -- what a walk that meets the nodes L leaves, where n nodes were met before and at most cap may be met:
--- a count above cap says that there are more. `start` is the check word before, on and index the marks and the index before
+-- a count above cap says that there are more, and then the marks and the index may hold anything. `start` is the check word before, on and index the marks and the index before
 pub record Walked (L : List Body) (n cap start : ℕ) (on on′ index index′ : List ℕ) (r : Met) : Type 0 where
   pub count : r .count ≡ min (cap + 1) (n + length L)
-  pub marks : on′ ≡ on
+  pub marks : r .count ≤ cap → on′ ≡ on
   pub written : r .count ≤ cap → index′ ≡ sets index (8 + 6 * n) (flat L)
   pub check : r .count ≤ cap → r .check ≡ checked start (flat L)
 

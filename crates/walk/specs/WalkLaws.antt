@@ -54,11 +54,11 @@ checked-all check b K S =
 -- nothing is met
 pub walked-none : (n cap check : ℕ) (on ix : List ℕ) → n ≤ cap → Walked [] n cap check on on ix ix (record { count = n; check = check })
 unfolding flat checked
-walked-none n cap check on ix h = record { count = omega arith; marks = refl; written = λ _. refl; check = λ _. refl }
+walked-none n cap check on ix h = record { count = omega arith; marks = λ _. refl; written = λ _. refl; check = λ _. refl }
 
 -- no room for a node
 pub walked-full : (b : Body) (L : List Body) (n cap check sum : ℕ) (on ix : List ℕ) → n ≡ cap → Walked (b ∷ L) n cap check on on ix ix (record { count = cap + 1; check = sum })
-walked-full b L n cap check sum on ix e = record { count = omega arith; marks = refl; written = λ h. absurd (over h); check = λ h. absurd (over h) }
+walked-full b L n cap check sum on ix e = record { count = omega arith; marks = λ _. refl; written = λ h. absurd (over h); check = λ h. absurd (over h) }
   where
     over : cap + 1 ≤ cap → ⊥
     over h = omega arith
@@ -80,7 +80,7 @@ walked-all b K S n cap check sum after r on on₁ on₂ ix ix₁ ix₂ ix₃ k f
     let e : after .count ≡ n + 1 + length K = omega (arith, k .count) in
     record {
       count = simp length-append (omega (arith, k .count, s .count));
-      marks = s .marks ∙ k .marks;
+      marks = λ h. s .marks h ∙ k .marks fit;
       written = λ h. s .written h
           ∙ ap (λ (l : List ℕ). sets l (8 + 6 * after .count) (flat S)) (put .written ∙ ap (λ (l : List ℕ). sets l (8 + 6 * n) (bodyWords b)) (k .written fit))
           ∙ written-all ix n (after .count) b K S e;
@@ -96,7 +96,7 @@ walked-join L M n cap check on on₁ on₂ ix ix₁ ix₂ r₁ r₂ l fit m =
     let e : 8 + 6 * r₁ .count ≡ 8 + 6 * n + length (flat L) = omega (arith, l .count, length-flat L) in
     record {
       count = simp length-append (omega (arith, l .count, m .count));
-      marks = m .marks ∙ l .marks;
+      marks = λ h. m .marks h ∙ l .marks fit;
       written = λ h. m .written h
           ∙ ap (λ (s : List ℕ). sets s (8 + 6 * r₁ .count) (flat M)) (l .written fit)
           ∙ ap (λ (k : ℕ). sets (sets ix (8 + 6 * n) (flat L)) k (flat M)) e
@@ -127,6 +127,10 @@ or-else-some (suc r) k h = refl
 
 pub or-else-root : (root k : ℕ) → root ≢ 0 → root ≡ orElse root k
 or-else-root root k h = sym (or-else-some root k h)
+
+pub or-else-rank : (root n : ℕ) → orElse root (n + 1) ≢ 0
+or-else-rank zero n = omega arith
+or-else-rank (suc root) n = omega arith
 
 module _ (num par : ℕ → ℕ) (pool : List ℕ) (orphan : Bool) where
   -- the nodes below the row x, the node of rank k
@@ -227,11 +231,11 @@ module _ (R : Rows) (orphan : Bool) (limit level parent root : ℕ) where
       let e₁ : after .count - n ≡ suc (length K) = omega (arith, w .count) in
       let e₂ : after .count + 1 ≡ n + 1 + suc (length K) = omega (arith, w .count) in
       let same : rowBody (R .cls) (R .numeral) (R .row) orphan p level parent root n on₁ (after .count - n) ≡ nodeBody num orphan x (suc (length K)) parent (orElse root (n + 1)) level (memb (num x) seen)
-      = ap (λ (o : List ℕ). rowBody (R .cls) (R .numeral) (R .row) orphan p level parent root n o (after .count - n)) (w .marks)
+      = ap (λ (o : List ℕ). rowBody (R .cls) (R .numeral) (R .row) orphan p level parent root n o (after .count - n)) (w .marks fit)
       ∙ ap (λ (z : ℕ). rowBody (R .cls) (R .numeral) (R .row) orphan p level parent root n on z) e₁
       ∙ row-body-is R num par pool orphan p level parent root n on seen (suc (length K)) lt hung marked in
       let later : Walked (emit (nodeBody num orphan) num par pool (suc (limit - level)) seen (map (rowOf R) ps) parent root level (n + 1 + suc (length K))) (after .count) cap sum on₁ on₂ ix₂ ix₃ r
-      = rw (sym (fuel deep), sym e₂) (s num par pool seen hung (subst (λ (o : List ℕ). Marked R num o seen) (sym (w .marks)) marked)) in
+      = rw (sym (fuel deep), sym e₂) (s num par pool seen hung (subst (λ (o : List ℕ). Marked R num o seen) (sym (w .marks fit)) marked)) in
       rw (fuel deep, emit-cons num par pool orphan (limit - level) seen x (map (rowOf R) ps) parent root level (n + 1))
       (walked-all _ K _ n cap check sum after r on on₁ on₂ ix ix₁ ix₂ ix₃ w fit (subst (λ (b : Body). Put b n (after .check) ix₁ ix₂ sum) same put) later)
 
@@ -356,8 +360,11 @@ opened-both false d e = (refl, e)
 pub opened-level : (cls : List ℕ) (limit p level : ℕ) (on : List ℕ) → opened cls limit p level on ≡ true → level < limit
 opened-level cls limit p level on e = ltb-true level limit (opened-both (closes cls p on) (ltb level limit) e .1)
 
+pub opened-unmarked : (cls : List ℕ) (limit p level : ℕ) (on : List ℕ) → opened cls limit p level on ≡ true → closes cls p on ≡ false
+opened-unmarked cls limit p level on e = opened-both (closes cls p on) (ltb level limit) e .0
+
 -- the mark is taken away again
-marks-back : (on : List ℕ) (c : ℕ) → ltb 0 (getD on c 0) ≡ false → set (set on c 1) c 0 ≡ on
+pub marks-back : (on : List ℕ) (c : ℕ) → ltb 0 (getD on c 0) ≡ false → set (set on c 1) c 0 ≡ on
 marks-back on c e =
     let z : getD on c 0 ≡ 0 = omega (arith, ltb-false 0 (getD on c 0) e) in
     set-set on c 1 0 ∙ ap (λ (v : ℕ). set on c v) (sym z) ∙ set-getD on c 0
@@ -400,7 +407,7 @@ module _ (R : Rows) (orphan : Bool) (limit level root : ℕ) where
       let w′ = subst (λ (L : List Body). Walked L (n + 1) cap check (set on c 1) on₁ ix ix₁ r) same w in
       record {
         count = w′ .count;
-        marks = ap (λ (l : List ℕ). set l c 0) (w′ .marks) ∙ ap (λ (z : ℕ). set (set on z 1) z 0) ec ∙ marks-back on (getD (R .cls) p 0) (o .0);
+        marks = λ h. ap (λ (l : List ℕ). set l c 0) (w′ .marks h) ∙ ap (λ (z : ℕ). set (set on z 1) z 0) ec ∙ marks-back on (getD (R .cls) p 0) (o .0);
         written = w′ .written;
         check = w′ .check;
       }
@@ -410,18 +417,18 @@ whole-kept {R} e w = subst (λ (n : ℕ). Whole R n) e w
 
 -- ---- a body written in its part of the index
 
-pub put-body : (ix ys : List ℕ) (n check r : ℕ) (b b′ : Body) → 14 + 6 * n ≤ length ix
-    → r ≡ cond (ltb (length (midOf (8 + 6 * n) (length ix - (8 + 6 * n)) ix)) 6) check (checked check (bodyWords b))
-    → ys ≡ cond (ltb (length (midOf (8 + 6 * n) (length ix - (8 + 6 * n)) ix)) 6) (midOf (8 + 6 * n) (length ix - (8 + 6 * n)) ix) (sets (midOf (8 + 6 * n) (length ix - (8 + 6 * n)) ix) 0 (bodyWords b))
+pub put-body : (ix ys : List ℕ) (start n check r : ℕ) (b b′ : Body) → start ≡ 8 + 6 * n → 14 + 6 * n ≤ length ix
+    → r ≡ cond (ltb (length (midOf start (length ix - start) ix)) 6) check (checked check (bodyWords b))
+    → ys ≡ cond (ltb (length (midOf start (length ix - start) ix)) 6) (midOf start (length ix - start) ix) (sets (midOf start (length ix - start) ix) 0 (bodyWords b))
     → b ≡ b′
-    → Put b′ n check ix (putMid (8 + 6 * n) (length ix - (8 + 6 * n)) ix ys) r
-put-body ix ys n check r b b′ room er ey same =
-    let k : ℕ = length ix - (8 + 6 * n) in
-    let long : length (midOf (8 + 6 * n) k ix) ≡ k = length-take-le k (drop (8 + 6 * n) ix) (rw (length-drop (8 + 6 * n) ix) (omega arith)) in
-    let t : ltb (length (midOf (8 + 6 * n) k ix)) 6 ≡ false = le-ltb (length (midOf (8 + 6 * n) k ix)) 6 (omega arith) in
+    → Put b′ n check ix (putMid start (length ix - start) ix ys) r
+put-body ix ys start n check r b b′ begins room er ey same =
+    let k : ℕ = length ix - start in
+    let long : length (midOf start k ix) ≡ k = length-take-le k (drop start ix) (rw (length-drop start ix) (omega arith)) in
+    let t : ltb (length (midOf start k ix)) 6 ≡ false = le-ltb (length (midOf start k ix)) 6 (omega arith) in
     let fits : 0 + length (bodyWords b) ≤ k = omega (arith, length-body b) in
-    subst (λ (z : Body). Put z n check ix (putMid (8 + 6 * n) k ix ys) r) same
+    subst (λ (z : Body). Put z n check ix (putMid start k ix ys) r) same
     record {
       check = er ∙ rw t;
-      written = ap (λ (l : List ℕ). putMid (8 + 6 * n) k ix l) ey ∙ rw t (sets-mid (8 + 6 * n) k 0 ix (bodyWords b) fits ∙ ap (λ (i : ℕ). sets ix i (bodyWords b)) (add-zero (8 + 6 * n)));
+      written = ap (λ (l : List ℕ). putMid start k ix l) ey ∙ rw t (sets-mid start k 0 ix (bodyWords b) fits ∙ ap (λ (i : ℕ). sets ix i (bodyWords b)) (add-zero start ∙ begins));
     }
