@@ -261,7 +261,7 @@ module _ (R : List Row) (start : Row → Bool) (depth : Depth) (row parent numer
         subst (λ (L : List Body). Walked L 0 cap 0 on on₁ ix ix₁ met)
         (ap₂ (λ (g : ℕ) (xs : List ℕ). emit (mkBody R false) (num R) (par R) (sorted R) g [] xs 0 0 1 1) limit-is all-starts) (starting .walked)
 
-    pub begun-marks : on₁ ≡ on
+    pub begun-marks : b .count ≤ cap → on₁ ≡ on
     begun-marks = begun-walked .marks
 
     -- ignore and error
@@ -423,7 +423,7 @@ module _ (R : List Row) (start : Row → Bool) (depth : Depth) (row parent numer
             go : Dec (cap < q .met .count) → Walked (A ++ (mine (suc (length own) + length taken) ∷ T)) 0 cap 0 on on₂ ix ix₂ r
             go (yes over) = record {
               count = omega (arith, q .count-is, both .count, lengths);
-              marks = both .marks;
+              marks = λ h. absurd (omega (arith, q .count-is));
               written = λ h. absurd (omega (arith, q .count-is));
               check = λ h. absurd (omega (arith, q .count-is));
             }
@@ -435,7 +435,7 @@ module _ (R : List Row) (start : Row → Bool) (depth : Depth) (row parent numer
                 ∙ size-written ix A (mine (suc (length own))) T (omega (arith, both .count, length-append A (mine (suc (length own)) ∷ T))) in
                 record {
                   count = omega (arith, q .count-is, both .count, lengths);
-                  marks = both .marks;
+                  marks = λ z. both .marks h;
                   written = λ z. w .written
                       ∙ ap₂ (λ (l : List ℕ) (v : ℕ). set l (8 + 6 * b .before + 2) v) (both .written h) (ap₂ _+_ size-is (more h))
                       ∙ ap (λ (j : ℕ). set (sets ix 8 (flat (A ++ (mine (suc (length own)) ∷ T)))) (8 + 6 * j + 2) (suc (length own) + length taken)) before-first

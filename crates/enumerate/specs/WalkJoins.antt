@@ -74,7 +74,7 @@ module _ (W : Rows) (flags : List ℕ) (last limit cap : ℕ) (low : last ≤ le
       let B : List ℕ = map (rowOf W) (flagged flags last (length (W .child))) in
       let E : List ℕ → ℕ → List Body = λ (xs : List ℕ) (k : ℕ). emit (nodeBody num false) num par pool limit [] xs 0 0 1 k in
       let first : Walked (E A 1) 0 cap 0 on on₁ ix ix₁ r₁ = subst (λ (g : ℕ). Walked (emit (nodeBody num false) num par pool g [] A 0 0 1 1) 0 cap 0 on on₁ ix ix₁ r₁) f (w num par pool [] hung marked) in
-      let same : Marked W num on₁ [] = subst (λ (l : List ℕ). Marked W num l []) (sym (first .marks)) marked in
+      let same : Marked W num on₁ [] = subst (λ (l : List ℕ). Marked W num l []) (sym (first .marks fit)) marked in
       let c : r₁ .count ≡ length (E A 1) = omega (arith, first .count) in
       let k : r₁ .count + 1 ≡ 1 + length (E A 1) = omega arith in
       let second₀ : Walked (E B (r₁ .count + 1)) (r₁ .count) cap (r₁ .check) on₁ on₂ ix₁ ix₂ r₂ = subst (λ (g : ℕ). Walked (emit (nodeBody num false) num par pool g [] B 0 0 1 (r₁ .count + 1)) (r₁ .count) cap (r₁ .check) on₁ on₂ ix₁ ix₂ r₂) f (v num par pool [] hung same) in
@@ -90,7 +90,7 @@ module _ (W : Rows) (flags : List ℕ) (last limit cap : ℕ) (low : last ≤ le
 -- a walk that passed the capacity, of any longer list
 pub walked-longer : (L M : List Body) (n cap check : ℕ) (on on₁ ix ix₁ ix₂ : List ℕ) (r : Met) → Walked L n cap check on on₁ ix ix₁ r → cap < r .count → length L ≤ length M → Walked M n cap check on on₁ ix ix₂ r
 walked-longer L M n cap check on on₁ ix ix₁ ix₂ r w over le =
-    record { count = omega (arith, w .count); marks = w .marks; written = λ h. absurd (no h over); check = λ h. absurd (no h over) }
+    record { count = omega (arith, w .count); marks = λ h. absurd (no h over); written = λ h. absurd (no h over); check = λ h. absurd (no h over) }
   where
     no : {a b : ℕ} → a ≤ b → b < a → ⊥
     no p q = omega arith

@@ -74,7 +74,7 @@ walk-orphans-requires c κs =
     let y = s .pre .0 .ready in
     let f = s .pre .0 .flags-are in
     let lim = limit-rows (s .pre .0 .R) (s .pre .0 .start) (s .args .depth) _ _ _ _ _ _ _ _ _ y f _ (c .before .before .before .before .before .before .before .before .before .before .before .before .before .before .before .before .before .before .before .before .before .before .level-limit .ensures) in
-    let m = begun-marks (s .pre .0 .R) (s .pre .0 .start) (s .args .depth) _ _ _ _ _ _ _ _ _ y f _ _ _ _ _ _ (s .pre .1 .0 .3) (s .pre .1 .1 .marks-clear) _ lim _ (c .before .before .before .before .before .before .before .before .before .before .before .before .before .before .before .before .walk-starts .ensures) in
+    let m = begun-marks (s .pre .0 .R) (s .pre .0 .start) (s .args .depth) _ _ _ _ _ _ _ _ _ y f _ _ _ _ _ _ (s .pre .1 .0 .3) (s .pre .1 .1 .marks-clear) _ lim _ (c .before .before .before .before .before .before .before .before .before .before .before .before .before .before .before .before .walk-starts .ensures) (c .before .before .before .before .before .before .before .before .before .before .before .if1 .left) in
     let n = begun-named (s .pre .0 .R) (s .pre .0 .start) (s .args .depth) _ _ _ _ _ _ _ _ _ y f _ _ _ _ _ _ (s .pre .1 .0 .3) (s .pre .1 .1 .marks-clear) _ lim _ (c .before .before .before .before .before .before .before .before .before .before .before .before .before .before .before .before .walk-starts .ensures) (c .before .before .before .before .before .before .before .before .before .before .before .if1 .left) in (
       record { R = s .pre .0 .R; ready = y },
       ((c .before .before .before .before .before .before .before .before .before .before .before .if1 .left, s .pre .1 .0 .2, omega (arith, s .pre .1 .0, c .before .before .before .before .before .before .before .before .before .before .before .before .before .index .given), n), spare-kept _ _ _ _ _ _ _ _ m (s .pre .1 .1)),
@@ -150,7 +150,7 @@ adopt-requires c κs =
     let lim = limit-rows (s .pre .0 .R) (s .pre .0 .start) (s .args .depth) _ _ _ _ _ _ _ _ _ y f _ (c .before .before .before .before .before .before .before .before .before .before .before .before .before .before .before .before .before .before .before .before .before .before .before .level-limit .ensures) in
     let two = choice-two (s .args .orphan) (s .pre .1 .0 .0) (λ h. absurd (omega (arith, h, c .before .before .before .before .before .before .before .before .before .before .before .if2 .left))) (c .before .before .before .before .before .before .before .before .before .before .if3 .left) in
     let none = s .pre .1 .0 .1 (omega (arith, two)) in
-    let m = begun-marks (s .pre .0 .R) (s .pre .0 .start) (s .args .depth) _ _ _ _ _ _ _ _ _ y f _ _ _ _ _ _ (s .pre .1 .0 .3) (s .pre .1 .1 .marks-clear) _ lim _ (c .before .before .before .before .before .before .before .before .before .before .before .before .before .before .before .before .before .walk-starts .ensures) in
+    let m = begun-marks (s .pre .0 .R) (s .pre .0 .start) (s .args .depth) _ _ _ _ _ _ _ _ _ y f _ _ _ _ _ _ (s .pre .1 .0 .3) (s .pre .1 .1 .marks-clear) _ lim _ (c .before .before .before .before .before .before .before .before .before .before .before .before .before .before .before .before .before .walk-starts .ensures) (c .before .before .before .before .before .before .before .before .before .before .before .before .if1 .left) in
     let n = begun-named (s .pre .0 .R) (s .pre .0 .start) (s .args .depth) _ _ _ _ _ _ _ _ _ y f _ _ _ _ _ _ (s .pre .1 .0 .3) (s .pre .1 .1 .marks-clear) _ lim _ (c .before .before .before .before .before .before .before .before .before .before .before .before .before .before .before .before .before .walk-starts .ensures) (c .before .before .before .before .before .before .before .before .before .before .before .before .if1 .left) in
     let before = adopt-before (s .pre .0 .R) (s .pre .0 .start) (s .args .depth) _ _ _ _ _ _ _ _ _ y f _ _ _ _ _ _ (s .pre .1 .0 .3) (s .pre .1 .1 .marks-clear) _ lim _ (c .before .before .before .before .before .before .before .before .before .before .before .before .before .before .before .before .before .walk-starts .ensures) (c .before .before .before .before .before .before .before .before .before .before .before .before .if1 .left) none (c .before .before .before .before .before .before .before .before .before .before .before .before .before .before .before .before .before .before .before .before .before .before .before .before .last-flag .ensures) (c .before .before .before .before .before .before .before .before .before .if4 .left) in
     let size = adopt-size (s .pre .0 .R) (s .pre .0 .start) (s .args .depth) _ _ _ _ _ _ _ _ _ y f _ _ _ _ _ _ (s .pre .1 .0 .3) (s .pre .1 .1 .marks-clear) _ lim _ (c .before .before .before .before .before .before .before .before .before .before .before .before .before .before .before .before .before .walk-starts .ensures) (c .before .before .before .before .before .before .before .before .before .before .before .before .if1 .left) none (c .before .before .before .before .before .before .before .before .before .before .before .before .before .before .before .before .before .before .before .before .before .before .before .before .last-flag .ensures) (c .before .before .before .before .before .before .before .before .before .if4 .left) in (
