@@ -272,10 +272,10 @@ pub fn below(
             check: check,
         };
     }
-    let c = place(cls, p);
+    let own = place(cls, p);
     let first = lists::get(child, p);
     let top = root_of(root, rank);
-    marks[c] = 1;
+    marks[own] = 1;
     let met = forest(
         first,
         level + 1,
@@ -294,7 +294,7 @@ pub fn below(
         marks,
         index,
     );
-    marks[c] = 0;
+    marks[own] = 0;
     met
 }
 
