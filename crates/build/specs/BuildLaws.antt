@@ -11,6 +11,8 @@ use lib.Dec.{T, eqb, leb, ltb}
 use lib.IntN.{ℤ, pos}
 use lib.ListN.{List·getD-eq-default, length, getD, take, replicate, length-replicate, getD-replicate}
 use lib.Seq.{ext-getD}
+use Rattle.board.specs.Journal.{blank}
+use Rattle.lists.specs.Choice.{bit}
 use Rattle.lists.specs.Members.{_∈_, append-out, map-out, getD-in, filter, filter-in, filter-out, numbers, numbers-in, numbers-out, map-in, totalsFrom}
 use Rattle.lists.specs.Stores.{front}
 use Rattle.lists.specs.Counting.{by-place, by-place-length}
@@ -19,14 +21,14 @@ use Rattle.board.specs.declared.Board.{Board}
 use Rattle.board.specs.Edits.{rowsOf, soundOf}
 use Rattle.board.specs.Laws.{sound-numeral}
 use Rattle.image.specs.declared.Body.{Body}
-use Rattle.image.specs.Layout.{bit, imageWords}
+use Rattle.image.specs.Layout.{imageWords}
 use Rattle.options.specs.declared.Depth.{Depth}
 use Rattle.options.specs.declared.Depth.the-variants.{None, Limit}
 use Rattle.options.specs.Options.{orphanOf, multiOf, cycleOf, choiceOf, levelLimit}
 use Rattle.orphans.specs.Flags.{lastFlag, topFlags}
 use Rattle.passes.specs.Passes.{reachedFlags}
 use Rattle.paths.specs.Forest.{memb, forest}
-use Rattle.paths.specs.Rows.{noRow, num, par, RowOf}
+use Rattle.paths.specs.Rows.{num, par, RowOf}
 use Rattle.paths.specs.Paths.{last, closes, Orphan, error}
 use Rattle.paths.specs.Nodes.{sorted, starts, regular, orphanRows, orphanNodes, tops, nodes}
 use Rattle.paths.specs.Bodies.{body, orphanCloses, bodies, runningTotals, leftOf}
@@ -338,7 +340,7 @@ attempt-ran b code depth start index index′ totals totals′ r s w =
 -- each row of a sound board has a numeral
 pub sound-numbered : (b : Board) → soundOf b ≡ true → (x : ℕ) → RowOf (rowsOf b) x → num (rowsOf b) x ≢ 0
 sound-numbered b s zero r z = absurd (omega (arith, r))
-sound-numbered b s (suc k) r z = absurd (omega (arith, sound-numeral b s (getD (rowsOf b) k noRow) (getD-in (rowsOf b) k noRow (omega (arith, r)))))
+sound-numbered b s (suc k) r z = absurd (omega (arith, sound-numeral b s (getD (rowsOf b) k blank) (getD-in (rowsOf b) k blank (omega (arith, r)))))
 
 -- ---- the whole build
 

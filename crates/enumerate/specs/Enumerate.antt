@@ -6,6 +6,7 @@ use mathlib.Core.List.{List, [], map}
 use Prim.Native.Nat.{ℕ, suc, _+_, _*_, _%_, _^_, _-_, _≤_}
 use lib.Dec.{eqb}
 use lib.ListN.{length, getD, set, replicate}
+use Rattle.lists.specs.Choice.{bit}
 use Rattle.lists.specs.Members.{filter}
 use Rattle.board.specs.declared.Row.{Row}
 use Rattle.image.specs.declared.Body.{Body}
@@ -14,7 +15,7 @@ use Rattle.paths.specs.Rows.{row as rowOf, num, par, RowOf}
 use Rattle.paths.specs.Emit.{emit}
 use Rattle.paths.specs.Nodes.{sorted, noParent}
 use Rattle.paths.specs.Bodies.{mkBody}
-use Rattle.links.specs.Links.{bit, Ordered, firsts, nexts, keysOf}
+use Rattle.links.specs.Links.{Ordered, firsts, nexts, keysOf}
 use Rattle.passes.specs.Passes.{rowsTo}
 use Rattle.orphans.specs.Flags.{maskedParents, topFlags}
 use Rattle.walk.specs.Walk.{Rows, rowOf as rowAtPlace, Hung, Marked, Walked, Clear, nodeBody, flagged}

@@ -11,9 +11,10 @@ use borrow.Author.Tests.{eq-eqb, ne-eqb}
 use lib.Dec.{T, eqb, eqb→eq}
 use lib.ListN.{length, getD, set, length-append, length-map}
 use lib.Seq.{sets, ext-getD, take-length}
+use Rattle.lists.specs.Choice.{bit}
 use Rattle.lists.specs.Members.{_∈_, filter, keep, filter-none, map-append, numbers, numbers-out, getD-in}
 use Rattle.lists.specs.Counting.{by-place, by-place-length}
-use Rattle.lists.specs.Stores.{getD-mapped}
+use Rattle.lists.specs.Stores.{getD-mapped, getD-inside}
 use Rattle.board.specs.declared.Row.{Row}
 use Rattle.image.specs.declared.Body.{Body}
 use Rattle.image.specs.Layout.{bodyAt, rowAt, bodyWords, flat}
@@ -33,7 +34,6 @@ use Rattle.paths.specs.AdoptWalks.{bodies-adopt, bodies-adopt-none}
 use Rattle.paths.specs.BodyLaws.{regular-rows}
 use Rattle.paths.specs.Bounds.{bodies-bounded}
 use Rattle.paths.specs.Refusals.{orphanChoice}
-use Rattle.links.specs.Links.{bit as flagOf}
 use Rattle.links.specs.Children.{child-long, parent-long}
 use Rattle.links.specs.Starts.{flagged-rows}
 use Rattle.orphans.specs.Flags.{lastFlag, lastBelow}
@@ -44,7 +44,7 @@ use Rattle.walk.specs.Meaning.{hung}
 use Rattle.walk.specs.declared.Met.{Met}
 use Rattle.enumerate.specs.declared.Begun.{Begun}
 use Rattle.enumerate.specs.Enumerate.{Ready, StartFlags, Spare, Starting, StartsWalked, outside, topsAmong, orphanLevel, orphansFrom, Adopted}
-use Rattle.enumerate.specs.WalkJoins.{getD-inside, flagged-split, walked-longer, written-sized, size-written, check-raised}
+use Rattle.enumerate.specs.WalkJoins.{flagged-split, walked-longer, written-sized, size-written, check-raised}
 use Rattle.enumerate.specs.OrphanLaws.{row-count}
 
 -- ---- the rows of the bodies written so far
@@ -224,7 +224,7 @@ module _ (R : List Row) (start : Row → Bool) (depth : Depth) (row parent numer
   regular-bodies = E (starts R start) 1
 
   pub flags-long : length flags ≡ length row
-  flags-long = ap length flags-are ∙ length-map row (λ x. flagOf (start (boardRow R x)))
+  flags-long = ap length flags-are ∙ length-map row (λ x. bit (start (boardRow R x)))
 
   pub child-count : length child ≡ length row
   child-count = child-long R row parent numeral (ready .ordered) parent child next′ (parent-long R row parent numeral (ready .ordered)) (ready .child-is) (ready .next-is)

@@ -8,18 +8,18 @@ use native.Mathlib.Omega.{arith}
 use lib.Dec.{eqb, leb}
 use lib.ListN.{length, getD, replicate, length-map, length-replicate}
 use lib.Seq.{ext-getD, take-length}
-use Rattle.lists.specs.Members.{filter, keep, numbers}
+use Rattle.lists.specs.Choice.{bit, not-bit}
+use Rattle.lists.specs.Members.{filter, keep, numbers, filter-both}
 use Rattle.lists.specs.Counting.{by-place, by-place-length}
 use Rattle.lists.specs.Stores.{getD-mapped}
 use Rattle.board.specs.declared.Row.{Row}
 use Rattle.image.specs.declared.Body.{Body}
-use Rattle.image.specs.Layout.{bit}
 use Rattle.paths.specs.Forest.{memb}
 use Rattle.paths.specs.Rows.{num, par, RowOf}
 use Rattle.paths.specs.Nodes.{sorted, noParent}
 use Rattle.paths.specs.Emit.{emit}
 use Rattle.paths.specs.Bodies.{mkBody}
-use Rattle.links.specs.Links.{bit as flagOf, Masked}
+use Rattle.links.specs.Links.{Masked}
 use Rattle.links.specs.Children.{sorted-numbered, rows-long, parent-long, numeral-long, child-long, next-long, parent-at}
 use borrow.Author.Tests.{eq-eqb, ne-eqb}
 use Rattle.links.specs.Starts.{flagged-rows, owner-test}
@@ -30,18 +30,6 @@ use Rattle.walk.specs.WalkLaws.{clear-marked}
 use Rattle.walk.specs.Meaning.{whole, hung-inside}
 use Rattle.walk.specs.declared.Met.{Met}
 use Rattle.enumerate.specs.Enumerate.{Ready, OrphansLinked, outside, topsAmong, orphanLevel, orphansFrom}
-
-not-bit : (b : Bool) → eqb (bit b) 0 ≡ not b
-not-bit true = refl
-not-bit false = refl
-
-filter-both : (f g : ℕ → Bool) (l : List ℕ) → filter (λ y. f y && g y) l ≡ filter g (filter f l)
-filter-both f g [] = refl
-filter-both f g (y ∷ l) = go (f y) (filter-both f g l)
-  where
-    go : (b : Bool) → filter (λ z. f z && g z) l ≡ filter g (filter f l) → keep (b && g y) y (filter (λ z. f z && g z) l) ≡ filter g (keep b y (filter f l))
-    go true e = ap (keep (g y) y) e
-    go false e = e
 
 module _ (R : List Row) (row parent numeral child next class owner keys : List ℕ) (ready : Ready R row parent numeral child next class owner keys) where
   pub row-named : (p : ℕ) → p < length row → RowOf R (getD row p 0)
@@ -78,23 +66,23 @@ module _ (R : List Row) (row parent numeral child next class owner keys : List �
     top-test : ℕ → Bool
     top-test x = not (memb x ends) && noParent R (par R x)
 
-    tops-are : (t : List ℕ) → t ≡ topFlags row (reachedFlags ends (length row)) parent owner → t ≡ map (λ x. flagOf (top-test x)) row
+    tops-are : (t : List ℕ) → t ≡ topFlags row (reachedFlags ends (length row)) parent owner → t ≡ map (λ x. bit (top-test x)) row
     unfolding topFlags topAt inside top-test
     tops-are t e =
-        e ∙ ext-getD 0 (map f (numbers 0 (length row))) (map (λ x. flagOf (top-test x)) row) (by-place-length f 0 (length row) ∙ sym (length-map row (λ x. flagOf (top-test x))))
+        e ∙ ext-getD 0 (map f (numbers 0 (length row))) (map (λ x. bit (top-test x)) row) (by-place-length f 0 (length row) ∙ sym (length-map row (λ x. bit (top-test x))))
         (λ q h. at q (omega (arith, by-place-length f 0 (length row))))
       where
         f : ℕ → ℕ
         f = topAt row (reachedFlags ends (length row)) parent owner
 
-        at : (q : ℕ) → q < length row → getD (map f (numbers 0 (length row))) q 0 ≡ getD (map (λ x. flagOf (top-test x)) row) q 0
+        at : (q : ℕ) → q < length row → getD (map f (numbers 0 (length row))) q 0 ≡ getD (map (λ x. bit (top-test x)) row) q 0
         at q h =
             by-place f 0 (length row) q 0 h
             ∙ ap f (zero-add q)
             ∙ ap (λ (b : Bool). cond (b && (eqb (getD parent q 0) 0 || leb (length row) (getD owner q 0))) 1 0) (outside-is q h)
             ∙ ap (λ (y : ℕ). cond (not (memb (getD row q 0) ends) && (eqb y 0 || leb (length row) (getD owner q 0))) 1 0) (parent-at R row parent numeral (ready .ordered) q h)
             ∙ ap (λ (b : Bool). cond (not (memb (getD row q 0) ends) && (eqb (par R (getD row q 0)) 0 || b)) 1 0) (owner-test R row parent numeral (ready .ordered) owner (ready .owner-is) q h)
-            ∙ sym (getD-mapped (λ x. flagOf (top-test x)) row q 0 0 h)
+            ∙ sym (getD-mapped (λ x. bit (top-test x)) row q 0 0 h)
 
     pub tops-rows : (t : List ℕ) → t ≡ topFlags row (reachedFlags ends (length row)) parent owner → map (λ q. getD row q 0) (flagged t 0 (length row)) ≡ topsAmong R ends
     unfolding flagged top-test

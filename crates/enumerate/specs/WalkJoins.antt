@@ -1,16 +1,16 @@
 -- How the walks of an enumeration join: the start rows in two parts, and a tree size raised afterwards. Assumes nothing.
 use mathlib.Core.Path.{_≡_, refl, sym, ap, _∙_, subst}
 use mathlib.Core.Bool.{Bool, false}
-use mathlib.Core.List.{List, [], _∷_, _++_, map, append-assoc}
+use mathlib.Core.List.{List, [], _∷_, _++_, map}
 use Prim.Native.Nat.{ℕ, zero, suc, _+_, _-_, _*_, _%_, _^_, _≤_, _<_}
-use native.Mathlib.Nat.{add-zero, zero-add}
+use native.Mathlib.Nat.{zero-add}
 use native.Mathlib.Omega.{arith}
 use lib.Dec.{eqb}
-use lib.ListN.{length, getD, set, take, drop, length-append, List·getD-append}
+use lib.ListN.{length, getD, set, length-append}
 use mathlib.Core.Logic.{_≢_}
-use lib.Seq.{sets, sets-eq, set-set, getD-set-other, length-take-le, getD-append-add}
-use Rattle.lists.specs.Members.{filter, filter-append, map-append, numbers}
-use Rattle.lists.specs.Stores.{set-sets}
+use lib.Seq.{sets, getD-set-other, getD-append-add}
+use Rattle.lists.specs.Members.{filter, filter-append, map-append, numbers, numbers-append}
+use Rattle.lists.specs.Stores.{set-inside, getD-inside}
 use Rattle.image.specs.declared.Body.{Body}
 use Rattle.image.specs.Layout.{bodyWords, flat, checked, packed}
 use Rattle.image.specs.ImageLaws.{flat-append, length-flat, checked-append}
@@ -21,12 +21,7 @@ use Rattle.walk.specs.declared.Met.{Met}
 use Rattle.enumerate.specs.Enumerate.{StartsWalked}
 
 numbers-split : (a m n : ℕ) → m ≤ n → numbers a n ≡ numbers a m ++ numbers (a + m) (n - m)
-numbers-split a zero n h = let e : n ≡ n - 0 = omega arith in ap (λ (j : ℕ). numbers a j) e ∙ ap (λ (j : ℕ). numbers j (n - 0)) (sym (add-zero a))
-numbers-split a (suc m) zero h = absurd (omega arith)
-numbers-split a (suc m) (suc n) h =
-    let e : suc a + m ≡ a + suc m = omega arith in
-    let f : n - m ≡ suc n - suc m = omega arith in
-    ap (λ (l : List ℕ). a ∷ l) (numbers-split (suc a) m n (omega arith) ∙ ap (λ (j : ℕ). numbers (suc a) m ++ numbers j (n - m)) e ∙ ap (λ (j : ℕ). numbers (suc a) m ++ numbers (a + suc m) j) f)
+numbers-split a m n h = let e : n ≡ m + (n - m) = omega arith in ap (numbers a) e ∙ numbers-append a m (n - m)
 
 -- the flagged places in two parts
 pub flagged-split : (flags : List ℕ) (last n : ℕ) → last ≤ n → flagged flags 0 n ≡ flagged flags 0 last ++ flagged flags last n
@@ -97,17 +92,6 @@ walked-longer L M n cap check on on₁ ix ix₁ ix₂ r w over le =
 
 -- ---- a tree size raised afterwards
 
-set-inside : (xs : List ℕ) (i : ℕ) (vs : List ℕ) (j v : ℕ) → j < length vs → set (sets xs i vs) (i + j) v ≡ sets xs i (set vs j v)
-set-inside xs i [] j v h = absurd (omega arith)
-set-inside xs i (a ∷ vs) zero v h =
-    ap (λ (k : ℕ). set (sets (set xs i a) (suc i) vs) k v) (add-zero i)
-    ∙ ap (λ (l : List ℕ). set l i v) (set-sets xs i (suc i) a vs (omega arith))
-    ∙ set-set (sets xs (suc i) vs) i a v
-    ∙ sym (set-sets xs i (suc i) v vs (omega arith))
-set-inside xs i (a ∷ vs) (suc j) v h =
-    let e : i + suc j ≡ suc i + j = omega arith in
-    ap (λ (k : ℕ). set (sets (set xs i a) (suc i) vs) k v) e ∙ set-inside (set xs i a) (suc i) vs j v (omega arith)
-
 set-after : (xs ys : List ℕ) (j v : ℕ) → set (xs ++ ys) (length xs + j) v ≡ xs ++ set ys j v
 set-after [] ys j v = ap (λ (k : ℕ). set ys k v) (zero-add j)
 set-after (x ∷ xs) ys j v = let e : suc (length xs) + j ≡ suc (length xs + j) = omega arith in ap (λ (k : ℕ). set (x ∷ (xs ++ ys)) k v) e ∙ ap (λ (l : List ℕ). x ∷ l) (set-after xs ys j v)
@@ -131,19 +115,6 @@ written-sized ix A b T v =
     ∙ ap (λ (w : List ℕ). sets ix 8 w) (set-after (flat A) (flat (b ∷ T)) 2 v)
     ∙ ap (λ (w : List ℕ). sets ix 8 (flat A ++ w)) (flat-sized b T v)
     ∙ ap (λ (w : List ℕ). sets ix 8 w) (sym (flat-append A (sized b v ∷ T)))
-
-pub getD-inside : (xs : List ℕ) (i : ℕ) (vs : List ℕ) (j d : ℕ) → i + length vs ≤ length xs → j < length vs → getD (sets xs i vs) (i + j) d ≡ getD vs j d
-getD-inside xs i vs j d room h = go
-  where
-    go : getD (sets xs i vs) (i + j) d ≡ getD vs j d
-    go =
-        let e = sets-eq vs xs i room in
-        let t : length (take i xs) ≡ i = length-take-le i xs (omega arith) in
-        ap (λ (l : List ℕ). getD l (i + j) d) e
-        ∙ ap (λ (k : ℕ). getD (take i xs ++ vs ++ drop (i + length vs) xs) (k + j) d) (sym t)
-        ∙ ap (λ (l : List ℕ). getD l (length (take i xs) + j) d) (append-assoc (take i xs) vs (drop (i + length vs) xs))
-        ∙ getD-append-add (take i xs) (vs ++ drop (i + length vs) xs) j d
-        ∙ List·getD-append vs (drop (i + length vs) xs) d j h
 
 -- the tree size as it stands in the index
 pub size-written : (ix : List ℕ) (A : List Body) (b : Body) (T : List Body) → 8 + 6 * length (A ++ b ∷ T) ≤ length ix

@@ -11,17 +11,19 @@ use lib.Dec.{eqb, ltb, eqb→eq}
 use lib.IntN.{ℤ, pos}
 use lib.ListN.{length, getD, replicate, length-map, length-replicate, List·getD-eq-default}
 use lib.Seq.{sets, length-sets, ext-getD}
+use Rattle.board.specs.Journal.{blank}
+use Rattle.lists.specs.Choice.{bit}
 use Rattle.lists.specs.Members.{_∈_, filter, filter-map, filter-agree, filter-short, numbers, any, same-test, getD-in, place-of, Increasing, increasing-at, map-map, map-agree, totalsFrom, totals-map}
 use Rattle.lists.specs.Stores.{front, getD-mapped}
 use Rattle.lists.specs.Counting.{by-place, by-place-length}
 use Rattle.board.specs.declared.Row.{Row}
 use Rattle.image.specs.declared.Body.{Body}
-use Rattle.image.specs.Layout.{bit, rowAt, closingAt, bodyOf, flat, checked, contentsWords, imageWords}
+use Rattle.image.specs.Layout.{rowAt, closingAt, bodyOf, flat, checked, contentsWords, imageWords}
 use Rattle.image.specs.ImageLaws.{Holds, holds-front, image-written, row-read, size-read, closing-read}
 use Rattle.options.specs.declared.Choice.{Choice}
 use Rattle.paths.specs.Forest.{memb}
 use Rattle.paths.specs.ForestLaws.{eq→eqb}
-use Rattle.paths.specs.Rows.{row as boardRow, noRow, num, RowOf}
+use Rattle.paths.specs.Rows.{row as boardRow, num, RowOf}
 use Rattle.paths.specs.SiblingLaws.{sorted-is, sorted-distinct}
 use Rattle.paths.specs.Refusals.{shared, refusal10, refusal11}
 use Rattle.passes.specs.Passes.{Named, Places, ByRow, rowsTo, reachedFlags, anyClosing, kindAt, kindsTo, kindCounts, askedAt, sharesAt, anyShared, minutesAt, totalsTo}
@@ -131,7 +133,7 @@ module _ {R : List Row} {bs : List Body} {s : List ℕ} {n : ℕ} (h : Held R bs
       own zero o = absurd (omega (arith, o))
       own (suc k) o =
           let e : suc k - 1 ≡ k = omega arith in
-          ap (λ (j : ℕ). getD (map (λ (r : Row). r .minutes) R) j (pos 0)) e ∙ getD-mapped (λ (r : Row). r .minutes) R k noRow (pos 0) (omega (arith, o))
+          ap (λ (j : ℕ). getD (map (λ (r : Row). r .minutes) R) j (pos 0)) e ∙ getD-mapped (λ (r : Row). r .minutes) R k blank (pos 0) (omega (arith, o))
 
   -- ---- shared numerals
 

@@ -4,6 +4,7 @@ use mathlib.Core.List.{List, [], _∷_, _++_, map}
 use mathlib.Core.Bool.{Bool, true, false, cond, _||_, not}
 use lib.ListN.{length, getD}
 use lib.Dec.{ltb, eqb}
+use Rattle.lists.specs.Choice.{bit}
 use Rattle.lists.specs.Members.{numbers}
 use Rattle.image.specs.declared.Body.{Body}
 
@@ -51,10 +52,6 @@ closingAt s rank = closingOf (wordAt s rank)
 
 abbrev pub orphanAt : List ℕ → ℕ → Bool
 orphanAt s rank = orphanOf (wordAt s rank)
-
-abbrev pub bit : Bool → ℕ
-bit true = 1
-bit false = 0
 
 abbrev pub packed : ℕ → Bool → Bool → ℕ
 packed level closing orphan = bit orphan * 2 ^ 31 + (bit closing * 2 ^ 30 + level % 65536)

@@ -9,11 +9,12 @@ use native.Mathlib.Decide.{ℕ-discrete, decLt}
 use borrow.Author.Tests.{eq-eqb, ne-eqb}
 use lib.Dec.{eqb}
 use lib.ListN.{length, getD, length-map}
+use Rattle.board.specs.Journal.{blank}
 use Rattle.board.specs.declared.Row.{Row}
-use Rattle.lists.specs.Members.{_∈_, keep, filter, filter-agree, numbers, numbers-out, sort-out}
+use Rattle.lists.specs.Members.{_∈_, keep, filter, filter-agree, numbers, numbers-out, sort-out, filter-both}
 use Rattle.lists.specs.Stores.{getD-mapped}
 use Rattle.paths.specs.Forest.{memb, children}
-use Rattle.paths.specs.Rows.{row, noRow, num, par, siblings}
+use Rattle.paths.specs.Rows.{row, num, par, siblings}
 use Rattle.paths.specs.Nodes.{sorted}
 use Rattle.links.specs.Links.{firstFrom, of, rowsBy, Numbered, nexts, firsts, places, Linked, end, more, Ordered, Masked}
 use Rattle.links.specs.Keys.{first-out, getD-nexts, getD-firsts, length-firsts, length-nexts}
@@ -43,7 +44,7 @@ sorted-in : (R : List Row) (x : ℕ) → x ∈ sorted R → (1 ≤ x) × (x ≤ 
 unfolding sorted
 sorted-in R x m = let r = numbers-out 1 (length R) x (sort-out (siblings R) (numbers 1 (length R)) x m) in (omega (arith, r), omega (arith, r))
 
-fields-sorted : (field : Row → ℕ) → field noRow ≡ 0 → (R : List Row) → map (of (map field R)) (sorted R) ≡ map (λ x. field (row R x)) (sorted R)
+fields-sorted : (field : Row → ℕ) → field blank ≡ 0 → (R : List Row) → map (of (map field R)) (sorted R) ≡ map (λ x. field (row R x)) (sorted R)
 fields-sorted field e R = map-agree (of (map field R)) (λ x. field (row R x)) (sorted R) (λ x m. of-row field e R x (sorted-in R x m .0))
 
 -- what `read_rows`, `order_rows` and two calls of `gather` leave
@@ -58,14 +59,6 @@ ordered R order parents numerals rows parent numeral few a b c d e f =
       parents-are = e ∙ ap₂ (λ (P : List ℕ) (l : List ℕ). map (of P) l) b same ∙ fields-sorted (λ (r : Row). r .parent) refl R;
       numerals-are = f ∙ ap₂ (λ (N : List ℕ) (l : List ℕ). map (of N) l) c same ∙ fields-sorted (λ (r : Row). r .numeral) refl R;
     }
-
-filter-both : (f g : ℕ → Bool) (l : List ℕ) → filter (λ y. f y && g y) l ≡ filter g (filter f l)
-filter-both f g [] = refl
-filter-both f g (y ∷ l) = go (f y) (filter-both f g l)
-  where
-    go : (b : Bool) → filter (λ z. f z && g z) l ≡ filter g (filter f l) → keep (b && g y) y (filter (λ z. f z && g z) l) ≡ filter g (keep b y (filter f l))
-    go true e = ap (keep (g y) y) e
-    go false e = e
 
 -- a masked parent equals x, which is not 0, exactly where the row is inside and its parent is x
 masked-test : (b : Bool) (p x : ℕ) → x ≢ 0 → eqb (cond b p 0) x ≡ (b && eqb p x)

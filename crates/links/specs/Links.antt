@@ -5,6 +5,7 @@ use mathlib.Core.Path.{_≡_}
 use Prim.Native.Nat.{ℕ, zero, suc, _+_, _-_, _*_, _/_, _%_, _<_, _≤_}
 use lib.Dec.{eqb, ltb}
 use lib.ListN.{length, getD, drop}
+use Rattle.lists.specs.Choice.{bit}
 use Rattle.lists.specs.Members.{Increasing, filter, sort, numbers}
 use Rattle.board.specs.declared.Row.{Row}
 use Rattle.paths.specs.Forest.{memb}
@@ -101,10 +102,6 @@ firsts F Q = map (λ x. firstFrom F x 0) Q
 -- all places of x in F
 unfoldable pub places : List ℕ → ℕ → List ℕ
 places F x = filter (λ q. eqb (getD F q 0) x) (numbers 0 (length F))
-
--- 1 for true, 0 for false
-abbrev pub bit : Bool → ℕ
-bit b = cond b 1 0
 
 -- the places from p on, by the links of `next`, where m is the number of places
 pub data Linked (next : List ℕ) (m : ℕ) : ℕ → List ℕ → Type 0 where

@@ -9,6 +9,7 @@ use borrow.Author.Tests.{le-leb, lt-leb}
 use lib.Dec.{eqb, leb}
 use lib.ListN.{length, getD, take, drop, length-map, length-drop}
 use lib.Seq.{getD-take, getD-drop, length-take-le, take-length}
+use Rattle.lists.specs.Choice.{bit, bit-test}
 use Rattle.board.specs.declared.Row.{Row}
 use Rattle.lists.specs.Members.{_∈_, is-true, is-false, filter, filter-agree, map-map, numbers, numbers-in, numbers-out, sort-in, getD-in}
 use Rattle.lists.specs.Stores.{getD-mapped}
@@ -16,15 +17,11 @@ use Rattle.paths.specs.Forest.{memb}
 use Rattle.paths.specs.ForestLaws.{memb-in, memb-out}
 use Rattle.paths.specs.Rows.{row, num, par, siblings, parentZero, numeralIn}
 use Rattle.paths.specs.Nodes.{sorted, starts}
-use Rattle.links.specs.Links.{firstFrom, of, firsts, bit, Ordered}
+use Rattle.links.specs.Links.{firstFrom, of, firsts, Ordered}
 use Rattle.links.specs.Keys.{first-out, getD-firsts, length-firsts, member-at}
 use Rattle.links.specs.Rows.{of-row}
 use Rattle.links.specs.Chains.{places-from}
 use Rattle.links.specs.Children.{sorted-numbered, rows-long, parent-long, numeral-long, parent-at, numeral-at}
-
-bit-test : (b : Bool) → eqb (bit b) 1 ≡ b
-bit-test true = refl
-bit-test false = refl
 
 -- the rows at the flagged places from i on, m places
 pub flagged-rows : (f : ℕ → Bool) (rows flags : List ℕ) (i m : ℕ) → flags ≡ map (λ x. bit (f x)) rows → i + m ≤ length rows

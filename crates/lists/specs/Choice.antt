@@ -1,6 +1,6 @@
--- Tests that are false in all their parts, the first refusal that applies, and the numbers of a range that pass a test. Assumes nothing.
+-- A test as a word, tests that are false in all their parts, the first refusal that applies, and the numbers of a range that pass a test. Assumes nothing.
 use mathlib.Core.Path.{_≡_, refl, sym, ap, _∙_}
-use mathlib.Core.Bool.{Bool, true, false, cond, _||_, _&&_}
+use mathlib.Core.Bool.{Bool, true, false, cond, not, _||_, _&&_}
 use mathlib.Core.List.{List, [], _∷_, _++_, append-nil}
 use Prim.Native.Nat.{ℕ, zero, suc, _+_, _-_, _≤_, _<_}
 use native.Mathlib.Nat.{add-zero, add-suc, suc-add}
@@ -10,6 +10,19 @@ use lib.Dec.{eqb}
 use lib.ListN.{length, length-append}
 use borrow.Author.Tests.{eq-eqb, ne-eqb, eqb-true, eqb-false}
 use Rattle.lists.specs.Members.{filter, keep, filter-append, filter-short, numbers, numbers-length}
+
+-- yes as 1, no as 0
+abbrev pub bit : Bool → ℕ
+bit true = 1
+bit false = 0
+
+pub bit-test : (b : Bool) → eqb (bit b) 1 ≡ b
+bit-test true = refl
+bit-test false = refl
+
+pub not-bit : (b : Bool) → eqb (bit b) 0 ≡ not b
+not-bit true = refl
+not-bit false = refl
 
 pub or-no : (a b : Bool) → a || b ≡ false → (a ≡ false) × (b ≡ false)
 or-no true b e = let z : _≡_ {A = ℕ} 0 1 = cc in absurd (omega arith)

@@ -6,8 +6,9 @@ use Prim.Native.Nat.{ℕ, zero, suc, _+_, _-_, _≤_, _<_}
 use native.Mathlib.Nat.{add-zero, zero-add, le-add-right, add-sub-of-le}
 use native.Mathlib.Numerals.{add-one}
 use native.Mathlib.Omega.{arith}
-use lib.ListN.{length, getD, set, take, drop, length-append, length-drop, length-set, length-map, drop-of-length-le}
-use lib.Seq.{sets, sets-eq, set-comm, take-set-le, drop-set-add, take-set-lt, drop-set-lt, drop-cons, set-append-seam, take-append-seam}
+use native.Mathlib.Decide.{ℕ-discrete}
+use lib.ListN.{length, getD, set, take, drop, length-append, length-drop, length-set, length-map, drop-of-length-le, List·getD-append}
+use lib.Seq.{sets, sets-eq, set-set, set-comm, set-getD, getD-set-other, getD-append-add, length-take-le, take-set-le, drop-set-add, take-set-lt, drop-set-lt, drop-cons, set-append-seam, take-append-seam}
 use borrow.Rule.Slice.PartMut.{midOf, postOf, putMid, put-same}
 
 module _ {A : Type 0} where
@@ -58,6 +59,55 @@ module _ {A : Type 0} where
   set-sets xs i j a (v ∷ vs) h =
       let ne : i ≢ j = omega arith in
       ap (λ (l : List A). sets l (suc j) vs) (set-comm xs i j a v ne) ∙ set-sets (set xs j v) i (suc j) a vs (omega arith)
+
+  -- a store within the places of later stores is lost
+  pub sets-over : (xs : List A) (i j : ℕ) (a : A) (vs : List A) → j ≤ i → i < j + length vs → sets (set xs i a) j vs ≡ sets xs j vs
+  sets-over xs i j a [] h k = absurd (omega arith)
+  sets-over xs i j a (v ∷ vs) h k = by (ℕ-discrete i j) (sets-over (set xs j v) i (suc j) a vs)
+    where
+      by : Dec (i ≡ j) → (suc j ≤ i → i < suc j + length vs → sets (set (set xs j v) i a) (suc j) vs ≡ sets (set xs j v) (suc j) vs)
+          → sets (set (set xs i a) j v) (suc j) vs ≡ sets (set xs j v) (suc j) vs
+      by (yes e) later = ap (λ (m : ℕ). sets (set (set xs m a) j v) (suc j) vs) e ∙ ap (λ (l : List A). sets l (suc j) vs) (set-set xs j a v)
+      by (no ne) later = ap (λ (l : List A). sets l (suc j) vs) (set-comm xs i j a v ne) ∙ later (omega arith) (omega arith)
+
+  -- a word that was kept comes back before later stores
+  pub sets-back : (xs : List A) (i j : ℕ) (a d : A) (vs : List A) → i < j → set (sets (set xs i a) j vs) i (getD xs i d) ≡ sets xs j vs
+  sets-back xs i j a d vs h =
+      ap (λ (l : List A). set l i (getD xs i d)) (set-sets xs i j a vs h)
+      ∙ set-set (sets xs j vs) i a (getD xs i d)
+      ∙ sym (set-sets xs i j (getD xs i d) vs h)
+      ∙ ap (λ (l : List A). sets l j vs) (set-getD xs i d)
+
+  -- stores from a place on leave the words before it
+  pub getD-sets-below : (xs : List A) (i j : ℕ) (d : A) (vs : List A) → i < j → getD (sets xs j vs) i d ≡ getD xs i d
+  getD-sets-below xs i j d [] h = refl
+  getD-sets-below xs i j d (v ∷ vs) h = getD-sets-below (set xs j v) i (suc j) d vs (omega arith) ∙ getD-set-other xs j i v d (omega arith)
+
+  -- a store within places that were written
+  pub set-inside : (xs : List A) (i : ℕ) (vs : List A) (j : ℕ) (v : A) → j < length vs → set (sets xs i vs) (i + j) v ≡ sets xs i (set vs j v)
+  set-inside xs i [] j v h = absurd (omega arith)
+  set-inside xs i (a ∷ vs) zero v h =
+      ap (λ (k : ℕ). set (sets (set xs i a) (suc i) vs) k v) (add-zero i)
+      ∙ ap (λ (l : List A). set l i v) (set-sets xs i (suc i) a vs (omega arith))
+      ∙ set-set (sets xs (suc i) vs) i a v
+      ∙ sym (set-sets xs i (suc i) v vs (omega arith))
+  set-inside xs i (a ∷ vs) (suc j) v h =
+      let e : i + suc j ≡ suc i + j = omega arith in
+      ap (λ (k : ℕ). set (sets (set xs i a) (suc i) vs) k v) e ∙ set-inside (set xs i a) (suc i) vs j v (omega arith)
+
+  -- a place that was written holds what was written
+  pub getD-inside : (xs : List A) (i : ℕ) (vs : List A) (j : ℕ) (d : A) → i + length vs ≤ length xs → j < length vs → getD (sets xs i vs) (i + j) d ≡ getD vs j d
+  getD-inside xs i vs j d room h = go
+    where
+      go : getD (sets xs i vs) (i + j) d ≡ getD vs j d
+      go =
+          let e = sets-eq vs xs i room in
+          let t : length (take i xs) ≡ i = length-take-le i xs (omega arith) in
+          ap (λ (l : List A). getD l (i + j) d) e
+          ∙ ap (λ (k : ℕ). getD (take i xs ++ vs ++ drop (i + length vs) xs) (k + j) d) (sym t)
+          ∙ ap (λ (l : List A). getD l (length (take i xs) + j) d) (append-assoc (take i xs) vs (drop (i + length vs) xs))
+          ∙ getD-append-add (take i xs) (vs ++ drop (i + length vs) xs) j d
+          ∙ List·getD-append vs (drop (i + length vs) xs) d j h
 
   -- what stands before may be written after
   pub sets-before : (xs : List A) (i : ℕ) (ys zs : List A) → sets (sets xs (i + length ys) zs) i ys ≡ sets xs i (ys ++ zs)

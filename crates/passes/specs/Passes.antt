@@ -7,8 +7,9 @@ use Prim.Native.Nat.{ℕ, zero, suc, _+_, _-_, _≤_, _<_}
 use lib.Dec.{eqb, ltb}
 use lib.IntN.{ℤ, pos}
 use lib.ListN.{length, getD}
+use Rattle.lists.specs.Choice.{bit}
 use Rattle.lists.specs.Members.{filter, numbers, any, totalsFrom}
-use Rattle.image.specs.Layout.{bit, rowAt, sizeAt, closingAt}
+use Rattle.image.specs.Layout.{rowAt, sizeAt, closingAt}
 use Rattle.paths.specs.Forest.{memb}
 
 -- the row numbers of the ranks 1 to n

@@ -6,10 +6,11 @@ use Prim.Native.Nat.{ℕ, _≤_}
 use lib.Dec.{eqb}
 use lib.IntN.{ℤ}
 use lib.ListN.{length}
+use Rattle.lists.specs.Choice.{bit}
 use Rattle.board.specs.declared.Row.{Row}
 use Rattle.paths.specs.Forest.{memb}
 use Rattle.paths.specs.Rows.{row as rowOf}
-use Rattle.links.specs.Links.{bit, of, rowsBy, keysOf, nexts, firsts, Ordered}
+use Rattle.links.specs.Links.{of, rowsBy, keysOf, nexts, firsts, Ordered}
 use Rattle.request.specs.declared.Start.{Start}
 use Rattle.request.specs.declared.Start.the-variants.{ParentZero, Listed}
 

@@ -2,9 +2,10 @@
 use mathlib.Core.Path.{_≡_}
 use mathlib.Core.List.{List, map}
 use Prim.Native.Nat.{ℕ}
+use Rattle.lists.specs.Choice.{bit}
 use Rattle.board.specs.declared.Row.{Row}
 use Rattle.paths.specs.Rows.{row as rowOf}
-use Rattle.links.specs.Links.{bit, Ordered}
+use Rattle.links.specs.Links.{Ordered}
 use Rattle.links.specs.Starts.{flags-parent-zero, flags-numeral-in}
 use Rattle.request.specs.declared.Start.{Start}
 use Rattle.request.specs.declared.Start.the-variants.{ParentZero, Listed}

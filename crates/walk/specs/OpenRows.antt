@@ -6,11 +6,10 @@ use mathlib.Core.Bool.{Bool, true, false, cond}
 use Prim.Native.Nat.{ℕ, zero, suc, _+_, _-_, _*_, _≤_, _<_}
 use native.Mathlib.Nat.{add-zero}
 use native.Mathlib.Omega.{arith}
-use native.Mathlib.Decide.{ℕ-discrete}
 use mathlib.Core.List.{List, [], _∷_, cons≢nil}
 use lib.ListN.{length, getD, set, length-set}
-use lib.Seq.{sets, set-set, set-comm, set-getD, getD-set-same, getD-set-other}
-use Rattle.lists.specs.Stores.{set-sets}
+use lib.Seq.{sets, getD-set-same, getD-set-other}
+use Rattle.lists.specs.Stores.{sets-over, sets-back, getD-sets-below}
 use Rattle.image.specs.declared.Body.{Body}
 use Rattle.image.specs.Layout.{bodyWords, flat}
 use Rattle.image.specs.ImageLaws.{length-body}
@@ -19,32 +18,6 @@ use Rattle.paths.specs.Emit.{orElse, emit}
 use Rattle.walk.specs.declared.Met.{Met}
 use Rattle.walk.specs.Walk.{Rows, Put, NodesWalked, SiblingsWalked, BelowWalked, closes, opened, rowOf, nodeBody, rowBody}
 use Rattle.walk.specs.WalkLaws.{below-none, below-some, siblings-past, siblings-full, siblings-over, siblings-step, marks-back, opened-level, opened-unmarked, or-else-root}
-
--- ---- words that are written over
-
-module _ {A : Type 0} where
-  -- a store within the places of later stores is lost
-  pub sets-over : (xs : List A) (i j : ℕ) (a : A) (vs : List A) → j ≤ i → i < j + length vs → sets (set xs i a) j vs ≡ sets xs j vs
-  sets-over xs i j a [] h k = absurd (omega arith)
-  sets-over xs i j a (v ∷ vs) h k = by (ℕ-discrete i j) (sets-over (set xs j v) i (suc j) a vs)
-    where
-      by : Dec (i ≡ j) → (suc j ≤ i → i < suc j + length vs → sets (set (set xs j v) i a) (suc j) vs ≡ sets (set xs j v) (suc j) vs)
-          → sets (set (set xs i a) j v) (suc j) vs ≡ sets (set xs j v) (suc j) vs
-      by (yes e) later = ap (λ (m : ℕ). sets (set (set xs m a) j v) (suc j) vs) e ∙ ap (λ (l : List A). sets l (suc j) vs) (set-set xs j a v)
-      by (no ne) later = ap (λ (l : List A). sets l (suc j) vs) (set-comm xs i j a v ne) ∙ later (omega arith) (omega arith)
-
-  -- a word that was kept comes back before later stores
-  pub sets-back : (xs : List A) (i j : ℕ) (a d : A) (vs : List A) → i < j → set (sets (set xs i a) j vs) i (getD xs i d) ≡ sets xs j vs
-  sets-back xs i j a d vs h =
-      ap (λ (l : List A). set l i (getD xs i d)) (set-sets xs i j a vs h)
-      ∙ set-set (sets xs j vs) i a (getD xs i d)
-      ∙ sym (set-sets xs i j (getD xs i d) vs h)
-      ∙ ap (λ (l : List A). sets l j vs) (set-getD xs i d)
-
-  -- stores from a place on leave the words before it
-  pub getD-sets-below : (xs : List A) (i j : ℕ) (d : A) (vs : List A) → i < j → getD (sets xs j vs) i d ≡ getD xs i d
-  getD-sets-below xs i j d [] h = refl
-  getD-sets-below xs i j d (v ∷ vs) h = getD-sets-below (set xs j v) i (suc j) d vs (omega arith) ∙ getD-set-other xs j i v d (omega arith)
 
 -- what is below a node doesn't depend on a word before its bodies
 below-kept : (R : Rows) (orphan : Bool) (limit level root p n cap check i v : ℕ) (on on₁ ix ix₁ : List ℕ) (r : Met) → i < 8 + 6 * (n + 1)

@@ -17,75 +17,57 @@ Inv-loop index₀ roots check₀ rank₀ index check rank = (rank ≤ 65535) × 
 abbrev μ-loop : tie.MeasureT-loop
 μ-loop index₀ roots check₀ rank₀ index check rank = 65535 - rank
 
--- src/main.rt:74:5
 loop-holds : tie.Need-loop-holds Inv-loop μ-loop
 loop-holds c = search needs
 
--- src/main.rt:75:27
 cast-at : tie.Need-cast-at Inv-loop μ-loop
 cast-at c = search needs
 
--- src/main.rt:75:22
 mul-at : tie.Need-mul-at Inv-loop μ-loop
 mul-at c = search needs
 
--- src/main.rt:75:18
 add-at : tie.Need-add-at Inv-loop μ-loop
 add-at c = search needs
 
--- src/main.rt:76:9
 add-rank : tie.Need-add-rank Inv-loop μ-loop
 add-rank c = search needs
 
--- src/main.rt:78:39
 mul-write-body : tie.Need-mul-write-body Inv-loop μ-loop
 mul-write-body c = search needs
 
--- src/main.rt:78:39
 sub-write-body : tie.Need-sub-write-body Inv-loop μ-loop
 sub-write-body c = search needs
 
--- src/main.rt:78:39
 part-write-body-start : tie.Need-part-write-body-start Inv-loop μ-loop
 part-write-body-start c = search needs
 
--- src/main.rt:78:39
 part-write-body-end : tie.Need-part-write-body-end Inv-loop μ-loop
 part-write-body-end c = search needs
 
--- src/main.rt:78:57
 node-requires : tie.Need-node-requires Inv-loop μ-loop
 node-requires c κs = search needs
 
--- src/main.rt:78:13
 write-body-requires : tie.Need-write-body-requires Inv-loop μ-loop
 write-body-requires c κs = search needs
 
--- src/main.rt:74:5
 loop-less : tie.Need-loop-less Inv-loop μ-loop
 loop-less c = search needs
 
--- src/main.rt:74:5
 loop-again : tie.Need-loop-again Inv-loop μ-loop
 loop-again c = search needs
 
--- src/main.rt:74:5
 loop-less-2 : tie.Need-loop-less-2 Inv-loop μ-loop
 loop-less-2 c = search needs
 
--- src/main.rt:74:5
 loop-again-2 : tie.Need-loop-again-2 Inv-loop μ-loop
 loop-again-2 c = search needs
 
--- src/main.rt:81:5
 write-contents-requires : tie.Need-write-contents-requires Inv-loop μ-loop
 write-contents-requires c κs = search needs
 
--- src/main.rt:71:1
 same-length : tie.Need-same-length Inv-loop μ-loop
 same-length c = search needs
 
--- src/main.rt:71:1
 returns : tie.Need-returns Inv-loop μ-loop
 returns c = search needs
 

@@ -10,95 +10,72 @@ use Rattle.check_cases.proofs.report_body.Lts as lts
 use Rattle.check_cases.proofs.report.Reads as report-reads
 use Rattle.image.proofs.add_words.Reads as add-words-reads
 
--- src/main.rt:43:23
 sub-at : tie.Need-sub-at
 sub-at c = search needs
 
--- src/main.rt:43:18
 mul-at : tie.Need-mul-at
 mul-at c = search needs
 
--- src/main.rt:43:14
 add-at : tie.Need-add-at
 add-at c = search needs
 
--- src/main.rt:44:11
 add-index : tie.Need-add-index
 add-index c = search needs
 
--- src/main.rt:44:5
 mul-index : tie.Need-mul-index
 mul-index c = search needs
 
--- src/main.rt:44:5
 array-write-index : tie.Need-array-write-index
 array-write-index c = search needs
 
--- src/main.rt:45:11
 add-index-2 : tie.Need-add-index-2
 add-index-2 c = search needs
 
--- src/main.rt:45:5
 mul-index-2 : tie.Need-mul-index-2
 mul-index-2 c = search needs
 
--- src/main.rt:45:5
 array-write-index-2 : tie.Need-array-write-index-2
 array-write-index-2 c = search needs
 
--- src/main.rt:46:11
 add-index-3 : tie.Need-add-index-3
 add-index-3 c = search needs
 
--- src/main.rt:46:5
 mul-index-3 : tie.Need-mul-index-3
 mul-index-3 c = search needs
 
--- src/main.rt:46:5
 array-write-index-3 : tie.Need-array-write-index-3
 array-write-index-3 c = search needs
 
--- src/main.rt:47:11
 add-index-4 : tie.Need-add-index-4
 add-index-4 c = search needs
 
--- src/main.rt:47:5
 mul-index-4 : tie.Need-mul-index-4
 mul-index-4 c = search needs
 
--- src/main.rt:47:5
 array-write-index-4 : tie.Need-array-write-index-4
 array-write-index-4 c = search needs
 
--- src/main.rt:48:33
 sub-add-words : tie.Need-sub-add-words
 sub-add-words c = search needs
 
--- src/main.rt:48:33
 part-add-words-start : tie.Need-part-add-words-start
 part-add-words-start c = search needs
 
--- src/main.rt:48:33
 part-add-words-end : tie.Need-part-add-words-end
 part-add-words-end c = search needs
 
--- src/main.rt:48:16
 add-words-requires : tie.Need-add-words-requires
 add-words-requires c κs = search needs
 
--- src/main.rt:48:5
 array-write-index-5 : tie.Need-array-write-index-5
 array-write-index-5 c = search needs
 
--- src/main.rt:49:18
 slice-aggregate-report : tie.Need-slice-aggregate-report
 slice-aggregate-report c = simp length-set
 
--- src/main.rt:49:5
 report-requires : tie.Need-report-requires
 report-requires c κs = search needs
 
--- src/main.rt:39:1
 returns : tie.Need-returns
 returns c = search needs
 
