@@ -13,8 +13,7 @@ use Rattle.lists.specs.Members.{filter, keep, filter-append, filter-shor
 
 -- yes as 1, no as 0
 abbrev pub bit : Bool → ℕ
-bit true = 1
-bit false = 0
+bit b = cond b 1 0
 
 pub bit-test : (b : Bool) → eqb (bit b) 1 ≡ b
 bit-test true = refl
