@@ -1,34 +1,21 @@
--- What the steps of a build answer and leave. Assumes nothing: these are definitions.
+-- What a build of rows answers and leaves. Assumes nothing: these are definitions.
 use mathlib.Core.Path.{_≡_}
-use mathlib.Core.Bool.{Bool, cond, _&&_}
+use mathlib.Core.Bool.{Bool, cond}
 use mathlib.Core.List.{List, map}
-use Prim.Native.Nat.{ℕ, _-_, _/_, min}
-use lib.Dec.{eqb, leb, ltb}
+use Prim.Native.Nat.{ℕ, _-_}
+use lib.Dec.{eqb}
 use lib.IntN.{ℤ}
 use lib.ListN.{length, replicate}
 use Rattle.lists.specs.Stores.{front}
 use Rattle.board.specs.declared.Row.{Row}
-use Rattle.board.specs.declared.Board.{Board}
-use Rattle.board.specs.Edits.{rowsOf}
 use Rattle.enumerate.specs.Enumerate.{Ready, StartFlags}
-use Rattle.request.specs.Build.{buildRefusal, builtOf}
 use Rattle.image.specs.Layout.{imageWords}
 use Rattle.options.specs.declared.Depth.{Depth}
 use Rattle.options.specs.Options.{orphanOf}
-use Rattle.orphans.specs.Flags.{lastFlag, topFlags}
 use Rattle.paths.specs.Nodes.{nodes}
 use Rattle.paths.specs.Bodies.{bodies, runningTotals, leftOf}
 use Rattle.paths.specs.Refusals.{orphanChoice, refusalOf}
 use Rattle.request.specs.declared.Built.{Built}
-
--- how many nodes the slices hold, at most 65,535; the index has 8 words or more, the totals one or more
-unfoldable pub capacityOf : ℕ → ℕ → ℕ
-capacityOf words totals = min 65535 (min ((words - 8) / 6) (totals - 1))
-
--- adopt, no start row flagged, and a row whose parent is 0 or no row's numeral
-unfoldable pub lacksStart : ℕ → List ℕ → List ℕ → List ℕ → List ℕ → List ℕ → Bool
-lacksStart orphan flags row reached parent owner =
-    eqb orphan 2 && (leb (length row) (lastFlag flags) && ltb (lastFlag (topFlags row reached parent owner)) (length row))
 
 module _ (R : List Row) (code : ℕ) (depth : Depth) (start : Row → Bool) where
   -- a build's answer over rows that are sound
@@ -53,12 +40,6 @@ pub record AnyBoard (row parent numeral child next class owner numeralKeys flags
   pub ready : Ready R row parent numeral child next class owner numeralKeys
   pub flags-are : StartFlags R start row flags
   pub minutes-are : minutes ≡ map (λ (r : Row). r .minutes) R
-
--- the answer of a build of a board; a refused one may leave anything
-pub record Attempted (b : Board) (code : ℕ) (depth : Depth) (start : Row → Bool) (index index′ : List ℕ) (totals totals′ : List ℤ) (r : Built) : Type 0 where
-  pub answer : r ≡ builtOf b code depth start (length index) (length totals)
-  pub index-is : buildRefusal b code depth start (length index) (length totals) ≡ 0 → index′ ≡ front (imageWords (bodies (rowsOf b) start depth (orphanChoice (orphanOf code)))) index
-  pub totals-are : buildRefusal b code depth start (length index) (length totals) ≡ 0 → totals′ ≡ front (runningTotals (rowsOf b) (nodes (rowsOf b) start depth (orphanChoice (orphanOf code)))) totals
 
 -- the slices that a build works in: n places each, the flags and marks all 0
 pub record Bench (n : ℕ) (reached masked marks kinds counts : List ℕ) : Type 0 where

@@ -1,9 +1,9 @@
 use mathlib.Core.Path.{ap, _∙_}
-use Rattle.build.specs.Work.{capacityOf}
+use Rattle.refusals.specs.Tests.{capacityOf}
 use borrow.Author.Needs.{needs}
 use Prim.Native.Nat.{ℕ, min, _-_}
-use Rattle.build.proofs.capacity.Statement.{statement}
-use Rattle.build.proofs.capacity.Tie as tie
+use Rattle.refusals.proofs.capacity.Statement.{statement}
+use Rattle.refusals.proofs.capacity.Tie as tie
 
 sub-smaller : tie.Need-sub-smaller
 sub-smaller c = search needs

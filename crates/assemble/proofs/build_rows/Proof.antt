@@ -3,12 +3,12 @@ use mathlib.Core.Logic.{_≢_}
 use lib.ListN.{take, replicate}
 use lib.Seq.{length-take-le}
 use Rattle.paths.specs.Rows.{num, RowOf}
-use Rattle.build.specs.BuildLaws.{take-replicate, ran-rows}
+use Rattle.assemble.specs.AssembledLaws.{take-replicate, ran-rows}
 use borrow.Author.Needs.{needs}
 use native.Mathlib.Omega.{arith}
 use Prim.Native.Nat.{ℕ, _≤_, _-_}
-use Rattle.build.proofs.build_rows.Statement.{statement}
-use Rattle.build.proofs.build_rows.Tie as tie
+use Rattle.assemble.proofs.build_rows.Statement.{statement}
+use Rattle.assemble.proofs.build_rows.Tie as tie
 
 array-borrow-prefix-minutes : tie.Need-array-borrow-prefix-minutes
 array-borrow-prefix-minutes c = search needs

@@ -1,8 +1,8 @@
-use Rattle.build.specs.BuildLaws.{lacks-not-adopt, lacks-not-bare, lacks-tops}
+use Rattle.refusals.specs.TestLaws.{lacks-not-adopt, lacks-not-bare, lacks-tops}
 use borrow.Author.Needs.{needs}
 use Prim.Native.Nat.{_-_}
-use Rattle.build.proofs.lacks_start.Statement.{statement}
-use Rattle.build.proofs.lacks_start.Tie as tie
+use Rattle.refusals.proofs.lacks_start.Statement.{statement}
+use Rattle.refusals.proofs.lacks_start.Tie as tie
 
 returns : tie.Need-returns
 returns c =

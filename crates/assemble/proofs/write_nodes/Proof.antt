@@ -1,12 +1,13 @@
 use mathlib.Core.Path.{_≡_, refl, ap, _∙_}
 use lib.ListN.{replicate, length-replicate}
-use Rattle.build.specs.BuildLaws.{capacity-bounds, marks-none, zeros-long, nodes-over, nodes-fit, nodes-few, nodes-written, nodes-nine, nodes-finished, classes-of}
+use Rattle.refusals.specs.TestLaws.{capacity-bounds}
+use Rattle.assemble.specs.AssembledLaws.{marks-none, zeros-long, nodes-over, nodes-fit, nodes-few, nodes-written, nodes-nine, nodes-finished, classes-of}
 use borrow.Author.Needs.{needs}
 use native.Mathlib.Omega.{arith}
 use Prim.Native.Nat.{ℕ, _-_}
 use lib.ListN.{length}
-use Rattle.build.proofs.write_nodes.Statement.{statement}
-use Rattle.build.proofs.write_nodes.Tie as tie
+use Rattle.assemble.proofs.write_nodes.Statement.{statement}
+use Rattle.assemble.proofs.write_nodes.Tie as tie
 
 enumerate-requires : tie.Need-enumerate-requires
 enumerate-requires c κs =

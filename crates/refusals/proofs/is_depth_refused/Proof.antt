@@ -1,8 +1,8 @@
-use Rattle.build.specs.BuildLaws.{depth-free, depth-asked}
+use Rattle.refusals.specs.TestLaws.{depth-free, depth-asked}
 use borrow.Author.Needs.{needs}
 use Prim.Native.Nat.{_-_}
-use Rattle.build.proofs.is_depth_refused.Statement.{statement}
-use Rattle.build.proofs.is_depth_refused.Tie as tie
+use Rattle.refusals.proofs.is_depth_refused.Statement.{statement}
+use Rattle.refusals.proofs.is_depth_refused.Tie as tie
 
 returns : tie.Need-returns
 returns c =

@@ -5,8 +5,8 @@ use borrow.Author.Needs.{needs}
 use native.Mathlib.Omega.{arith}
 use Prim.Native.Nat.{ℕ, _≤_, _-_}
 use lib.ListN.{length}
-use Rattle.build.proofs.clear_words.Statement.{statement}
-use Rattle.build.proofs.clear_words.Tie as tie
+use Rattle.assemble.proofs.clear_words.Statement.{statement}
+use Rattle.assemble.proofs.clear_words.Tie as tie
 
 abbrev Inv-loop : tie.InvT-loop
 Inv-loop s₀ k₀ s k = Filling (replicate (length s₀) 0) s k × (k ≤ length s₀) × (length s ≡ length s₀)

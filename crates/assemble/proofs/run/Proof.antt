@@ -1,11 +1,11 @@
 use mathlib.Core.Path.{sym, ap, _∙_}
 use lib.ListN.{replicate}
-use Rattle.build.specs.BuildLaws.{ready-of, board-of, eight-is, run-eight, run-nine-index, run-nine-totals, orphan-low, depth-none}
+use Rattle.assemble.specs.AssembledLaws.{ready-of, board-of, eight-is, run-eight, run-nine-index, run-nine-totals, orphan-low, depth-none}
 use borrow.Author.Needs.{needs}
 use native.Mathlib.Omega.{arith}
 use Prim.Native.Nat.{ℕ, _-_}
-use Rattle.build.proofs.run.Statement.{statement}
-use Rattle.build.proofs.run.Tie as tie
+use Rattle.assemble.proofs.run.Statement.{statement}
+use Rattle.assemble.proofs.run.Tie as tie
 
 choices-requires : tie.Need-choices-requires
 choices-requires c κs = search needs

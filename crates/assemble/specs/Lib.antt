@@ -1,0 +1,3 @@
+pub mod Assembled
+pub mod StartLaws
+pub mod AssembledLaws

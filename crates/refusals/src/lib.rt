@@ -1,0 +1,64 @@
+// The tests of a build before its nodes are walked: refusals 7 and 8, and how many nodes the slices hold (refusal 9).
+ghost use mathlib.Core.Path.{_≡_};
+ghost use Prim.Native.Nat.{_≤_, min};
+ghost use lib.ListN.{length};
+ghost use Rattle.paths.specs.Refusals.{given, refusal7};
+ghost use Rattle.refusals.specs.Tests.{capacityOf, lacksStart};
+use options::Depth;
+
+fn smaller(x: usize, y: usize) -> usize
+    ensures { λ r. ⌜ r ≡ min x y ⌝ }
+{
+    if x < y { x } else { y }
+}
+
+// How many nodes the two slices hold, at most 65,535.
+pub fn capacity(words: usize, totals: usize) -> u32
+    requires { ⌜ (8 ≤ words) × (1 ≤ totals) ⌝ }
+    ensures { λ r. ⌜ r ≡ capacityOf words totals ⌝ }
+{
+    let held = smaller((words - 8) / 6, totals - 1);
+    smaller(65535, held) as u32
+}
+
+fn is_given(depth: Depth) -> bool
+    ensures { λ r. ⌜ r ≡ given depth ⌝ }
+{
+    match depth {
+        Depth::None => false,
+        Depth::Limit(_) => true,
+    }
+}
+
+// Whether a depth is given and orphan isn't 0.
+pub fn is_depth_refused(orphan: u32, depth: Depth) -> bool
+    ensures { λ r. ⌜ r ≡ refusal7 orphan depth ⌝ }
+{
+    if orphan == 0 {
+        return false;
+    }
+    is_given(depth)
+}
+
+// Whether adopt meets a top orphan and there is no start row.
+pub fn lacks_start(
+    orphan: u32,
+    flags: &[u32],
+    row: &[u32],
+    reached: &[u32],
+    parent: &[u32],
+    owner: &[u32],
+    tops: &mut [u32],
+) -> bool
+    requires { ⌜ length (now row) ≡ length (now tops) ⌝ }
+    ensures { λ r. ⌜ r ≡ lacksStart orphan (now (flags .entry)) (now (row .entry)) (now (reached .entry)) (now (parent .entry)) (now (owner .entry)) ⌝ }
+{
+    if orphan != 2 {
+        return false;
+    }
+    if orphans::last_flag(flags) < row.len() {
+        return false;
+    }
+    orphans::flag_tops(row, reached, parent, owner, tops);
+    orphans::last_flag(tops) < row.len()
+}
