@@ -10,6 +10,7 @@ use borrow.Author.Tests.{ne-eqb, eqb-true}
 use lib.Dec.{eqb}
 use lib.IntN.{ℤ, pos}
 use lib.ListN.{List·getD-eq-default, length, getD, take, replicate, length-replicate, getD-replicate}
+use lib.Seq.{length-take-le}
 use Rattle.lists.specs.Members.{_∈_, append-out, map-out, filter, filter-in, filter-out, numbers, numbers-in, numbers-out, totalsFrom}
 use Rattle.lists.specs.Stores.{front}
 use Rattle.board.specs.declared.Row.{Row}
@@ -30,16 +31,16 @@ use Rattle.paths.specs.Bounds.{bodies-bounded}
 use Rattle.request.specs.declared.Built.{Built}
 use Rattle.request.specs.Build.{refusedBy}
 use Rattle.walk.specs.Walk.{Walked, Clear}
-use Rattle.prepare.specs.Prepared.{Prepared}
+use Rattle.prepare.specs.Prepared.{Prepared, Places}
 use Rattle.finish.specs.Finish.{leftOver, lateRefusal, lateAnswer, bodyMinutes, Written, Classes, Finished}
 use Rattle.links.specs.Children.{class-long, class-below, class-iff}
 use Rattle.options.specs.declared.Choice.{Choice}
 use Rattle.walk.specs.declared.Met.{Met}
-use Rattle.enumerate.specs.Enumerate.{Ready}
+use Rattle.enumerate.specs.Enumerate.{Ready, StartFlags}
 use Rattle.enumerate.specs.OrphanLaws.{row-count, few}
-use Rattle.refusals.specs.Tests.{capacityOf, lacksStart}
-use Rattle.refusals.specs.TestLaws.{given-test, capacity-fits, capacity-over, capacity-bounds, short-index, short-totals}
-use Rattle.assemble.specs.Assembled.{answerOf, AnyBoard, Ran}
+use Rattle.refusals.specs.Tests.{capacityOf, lacksStart, earlyRefusal}
+use Rattle.refusals.specs.TestLaws.{given-test, capacity-fits, capacity-over, capacity-bounds, early-clear, early-met}
+use Rattle.assemble.specs.Assembled.{answerOf, Bench, Ran}
 use Rattle.assemble.specs.StartLaws.{lacks-start}
 
 -- ---- a refusal and its answer
@@ -102,55 +103,80 @@ take-replicate zero m a h = refl
 take-replicate (suc n) zero a h = absurd (omega arith)
 take-replicate (suc n) (suc m) a h = ap (λ (l : List _). a ∷ l) (take-replicate n m a (omega arith))
 
-pub ran-rows : (j k : ℕ) (rows : List Row) (code : ℕ) (depth : Depth) (start : Row → Bool) (index index′ : List ℕ) (totals totals′ : List ℤ) (r : Built) → j ≡ k
-    → Ran (take j rows) code depth start index index′ totals totals′ r → Ran (take k rows) code depth start index index′ totals totals′ r
-ran-rows j k rows code depth start index index′ totals totals′ r e w = subst (λ (i : ℕ). Ran (take i rows) code depth start index index′ totals totals′ r) e w
-
 -- ---- the rows as they are prepared
 
-module _ (R : List Row) (code : ℕ) (depth : Depth) (start : Row → Bool) (minutes : List ℤ) (row parent numeral child next class owner flags keys : List ℕ)
-    (prepared : Prepared R start minutes row parent numeral child next class owner flags keys) (numbered : (x : ℕ) → RowOf R x → num R x ≢ 0) where
-  pub ready-of : Ready R row parent numeral child next class owner keys
-  ready-of = record {
-    ordered = prepared .ordered;
-    child-is = prepared .links .child-is;
-    next-is = prepared .links .next-is;
-    class-is = prepared .links .class-is;
-    owner-is = prepared .links .owner-is;
-    keys-are = prepared .links .keys-are;
-    numbered = numbered;
-  }
+pub ready-of : (R : List Row) (start : Row → Bool) (row parent numeral child next class owner flags keys : List ℕ) → Prepared R start row parent numeral child next class owner flags keys → ((x : ℕ) → RowOf R x → num R x ≢ 0)
+    → Ready R row parent numeral child next class owner keys
+ready-of R start row parent numeral child next class owner flags keys prepared numbered = record {
+  ordered = prepared .ordered;
+  child-is = prepared .links .child-is;
+  next-is = prepared .links .next-is;
+  class-is = prepared .links .class-is;
+  owner-is = prepared .links .owner-is;
+  keys-are = prepared .links .keys-are;
+  numbered = numbered;
+}
 
-  pub board-of : AnyBoard row parent numeral child next class owner keys flags minutes
-  board-of = record { R = R; start = start; ready = ready-of; flags-are = prepared .flags-are; minutes-are = prepared .minutes-are }
+module _ (R : List Row) (code : ℕ) (depth : Depth) (start : Row → Bool) (row parent numeral child next class owner keys flags : List ℕ)
+    (ready : Ready R row parent numeral child next class owner keys) (flags-are : StartFlags R start row flags)
+    (choice : Choice) (choice-is : choice ≡ choiceOf code) (reached : List ℕ) (clear : reached ≡ replicate (length row) 0) where
+  eight-is : lacksStart (choice .orphan) flags row reached parent owner ≡ refusal8 (orphanOf code) (tops R start depth) (starts R start)
+  eight-is =
+      lacks-start R start depth row parent numeral child next class owner keys flags ready flags-are (choice .orphan) reached clear
+      ∙ ap (λ (c : Choice). refusal8 (c .orphan) (tops R start depth) (starts R start)) choice-is
 
-  module _ (choice : Choice) (choice-is : choice ≡ choiceOf code) (n : ℕ) (long : length row ≡ n) (reached : List ℕ) (clear : reached ≡ replicate n 0) (t : Bool) (test : t ≡ lacksStart (choice .orphan) flags row reached parent owner) where
-    pub eight-is : t ≡ refusal8 (orphanOf code) (tops R start depth) (starts R start)
-    eight-is =
-        test
-        ∙ lacks-start R start depth row parent numeral child next class owner keys flags ready-of (prepared .flags-are) (choice .orphan) reached (clear ∙ ap (λ (k : ℕ). replicate k 0) (sym long))
-        ∙ ap (λ (c : Choice). refusal8 (c .orphan) (tops R start depth) (starts R start)) choice-is
+  module _ (q words totals : ℕ) (q-is : q ≡ earlyRefusal (lacksStart (choice .orphan) flags row reached parent owner) words totals) where
+    -- no test was met
+    pub early-start : q ≡ 0 → refusal8 (orphanOf code) (tops R start depth) (starts R start) ≡ false
+    early-start e = sym eight-is ∙ early-clear _ words totals (sym q-is ∙ e) .0
 
-    module _ (six : refusal6 code ≡ false) (seven : refusal7 (orphanOf code) depth ≡ false) (index index′ : List ℕ) (totals totals′ : List ℤ) (r : Built) where
-      ran-refused : (q : ℕ) → r ≡ refusedBy q → refusalOf R code depth start (length index) (length totals) ≡ q → (q ≡ 0 → ⊥) → Ran R code depth start index index′ totals totals′ r
-      ran-refused q e f z = record {
-        answer = e ∙ refused-answer R code depth start (length index) (length totals) q f z;
-        index-is = λ y. absurd (z (sym f ∙ y));
-        totals-are = λ y. absurd (z (sym f ∙ y));
+  -- a test was met
+  pub early-ran : (six : refusal6 code ≡ false) (seven : refusal7 (orphanOf code) depth ≡ false) (index index′ : List ℕ) (totals totals′ : List ℤ) (r : Built) (q : ℕ)
+      → q ≡ earlyRefusal (lacksStart (choice .orphan) flags row reached parent owner) (length index) (length totals) → (q ≡ 0 → ⊥) → r ≡ refusedBy q → Ran R code depth start index index′ totals totals′ r
+  early-ran six seven index index′ totals totals′ r q q-is some e =
+      ⊎-elim
+      (λ m. refused (by-eight R code depth start (length index) (length totals) six seven (sym eight-is ∙ m .0) ∙ sym (q-is ∙ m .1)))
+      (λ m. refused (by-nine R code depth start (length index) (length totals) six seven (sym eight-is ∙ m .0) (m .2 (length (bodies R start depth (orphanChoice (orphanOf code))))) ∙ sym (q-is ∙ m .1)))
+      (early-met (lacksStart (choice .orphan) flags row reached parent owner) (length index) (length totals) (λ z. some (q-is ∙ z)))
+    where
+      refused : refusalOf R code depth start (length index) (length totals) ≡ q → Ran R code depth start index index′ totals totals′ r
+      refused f = record {
+        answer = e ∙ refused-answer R code depth start (length index) (length totals) q f some;
+        index-is = λ y. absurd (some (sym f ∙ y));
+        totals-are = λ y. absurd (some (sym f ∙ y));
       }
 
-      pub run-eight : t ≡ true → r ≡ refusedBy 8 → Ran R code depth start index index′ totals totals′ r
-      run-eight hit e = ran-refused 8 e (by-eight R code depth start (length index) (length totals) six seven (sym eight-is ∙ hit)) (λ z. absurd (omega arith))
+-- ---- slices that are the fronts of arrays of m zeros
 
-      module _ (no : t ≡ false) where
-        eight : refusal8 (orphanOf code) (tops R start depth) (starts R start) ≡ false
-        eight = sym eight-is ∙ no
+module _ (n m : ℕ) (within : n ≤ m) (few : m ≤ 1024) where
+  zeros-front : length (take n (replicate {A = ℕ} m 0)) ≡ n
+  zeros-front = length-take-le n (replicate {A = ℕ} m 0) (omega (arith, length-replicate {A = ℕ} m 0))
 
-        pub run-nine-index : length index < 8 → r ≡ refusedBy 9 → Ran R code depth start index index′ totals totals′ r
-        run-nine-index h e = ran-refused 9 e (by-nine R code depth start (length index) (length totals) six seven eight (short-index (length (bodies R start depth (orphanChoice (orphanOf code)))) (length index) (length totals) h)) (λ z. absurd (omega arith))
+  pub fresh-places : (order parents numerals : ℕ) → order ≡ n → parents ≡ n → numerals ≡ n → (zeros : List ℕ) → zeros ≡ take n (replicate m 0)
+      → Places (length zeros) order parents numerals (length zeros) (length zeros) (length zeros) (length zeros) (length zeros) (length zeros) (length zeros) (length zeros) (length zeros) (length zeros)
+  fresh-places order parents numerals o p u zeros e =
+      let long : length zeros ≡ n = ap length e ∙ zeros-front in
+      record {
+        few = omega arith;
+        order-long = o ∙ sym long;
+        parents-long = p ∙ sym long;
+        numerals-long = u ∙ sym long;
+        parent-long = refl;
+        numeral-long = refl;
+        child-long = refl;
+        next-long = refl;
+        class-long = refl;
+        owner-long = refl;
+        flags-long = refl;
+        parent-keys-long = refl;
+        numeral-keys-long = refl;
+        scratch-long = refl;
+      }
 
-        pub run-nine-totals : length totals < 1 → r ≡ refusedBy 9 → Ran R code depth start index index′ totals totals′ r
-        run-nine-totals h e = ran-refused 9 e (by-nine R code depth start (length index) (length totals) six seven eight (short-totals (length (bodies R start depth (orphanChoice (orphanOf code)))) (length index) (length totals) h)) (λ z. absurd (omega arith))
+  pub fresh-bench : (zeros : List ℕ) → zeros ≡ take n (replicate m 0) → Bench (length zeros) zeros zeros zeros
+  fresh-bench zeros e =
+      let clear : zeros ≡ replicate (length zeros) 0 = e ∙ take-replicate n m 0 within ∙ ap (λ (k : ℕ). replicate k 0) (sym (ap length e ∙ zeros-front)) in
+      record { reached-clear = clear; masked-long = refl; marks-clear = clear }
 
 pub orphan-low : (code : ℕ) (choice : Choice) → choice ≡ choiceOf code → choice .orphan ≤ 3
 orphan-low code choice e = omega (arith, ap (λ (c : Choice). c .orphan) e)

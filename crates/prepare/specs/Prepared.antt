@@ -4,8 +4,6 @@ use mathlib.Core.Bool.{Bool}
 use mathlib.Core.List.{List, map}
 use Prim.Native.Nat.{ℕ, _≤_}
 use lib.Dec.{eqb}
-use lib.IntN.{ℤ}
-use lib.ListN.{length}
 use Rattle.lists.specs.Choice.{bit}
 use Rattle.board.specs.declared.Row.{Row}
 use Rattle.paths.specs.Forest.{memb}
@@ -25,10 +23,11 @@ pub record Arranged (order parents numerals row parent numeral : List ℕ) : Typ
   pub parent-is : parent ≡ map (of parents) row
   pub numeral-is : numeral ≡ map (of numerals) row
 
--- the rows R in sibling order, and their minutes by row number
-pub record Fields (R : List Row) (minutes : List ℤ) (row parent numeral : List ℕ) : Type 0 where
-  pub ordered : Ordered R row parent numeral
-  pub minutes-are : minutes ≡ map (λ (r : Row). r .minutes) R
+-- the fields of the rows R, by row number
+pub record Fields (R : List Row) (order parents numerals : List ℕ) : Type 0 where
+  pub order-are : order ≡ map (λ (r : Row). r .order) R
+  pub parents-are : parents ≡ map (λ (r : Row). r .parent) R
+  pub numerals-are : numerals ≡ map (λ (r : Row). r .numeral) R
 
 -- the links between the places, and the sorted keys of the numerals
 pub record Links (parent numeral child next class owner numeralKeys : List ℕ) : Type 0 where
@@ -39,17 +38,17 @@ pub record Links (parent numeral child next class owner numeralKeys : List ℕ) 
   pub keys-are : numeralKeys ≡ keysOf numeral
 
 -- all that a walk of the rows R needs
-pub record Prepared (R : List Row) (start : Row → Bool) (minutes : List ℤ) (row parent numeral child next class owner flags numeralKeys : List ℕ) : Type 0 where
+pub record Prepared (R : List Row) (start : Row → Bool) (row parent numeral child next class owner flags numeralKeys : List ℕ) : Type 0 where
   pub ordered : Ordered R row parent numeral
   pub links : Links parent numeral child next class owner numeralKeys
   pub flags-are : flags ≡ map (λ x. bit (start (rowOf R x))) row
-  pub minutes-are : minutes ≡ map (λ (r : Row). r .minutes) R
 
 -- n places in each of the slices that are lent for it
-pub record Places (n : ℕ) (minutes row parent numeral child next class owner flags parentKeys numeralKeys scratch : ℕ) : Type 0 where
+pub record Places (n : ℕ) (order parents numerals parent numeral child next class owner flags parentKeys numeralKeys scratch : ℕ) : Type 0 where
   pub few : n ≤ 1024
-  pub minutes-long : minutes ≡ n
-  pub row-long : row ≡ n
+  pub order-long : order ≡ n
+  pub parents-long : parents ≡ n
+  pub numerals-long : numerals ≡ n
   pub parent-long : parent ≡ n
   pub numeral-long : numeral ≡ n
   pub child-long : child ≡ n

@@ -1,12 +1,12 @@
 // The preparation of a walk: a board's rows in sibling order, the links between them, and the flags of the start rows.
 ghost use mathlib.Core.Path.{_≡_};
-ghost use mathlib.Core.List.{map};
+ghost use mathlib.Core.List.{List};
 ghost use Prim.Native.Nat.{_≤_};
-ghost use lib.ListN.{length, take};
+ghost use lib.ListN.{length};
+ghost use Rattle.board.specs.declared.Row.{Row};
 ghost use Rattle.links.specs.Links.{keysOf, firsts};
 ghost use Rattle.request.specs.Build.{startRule};
 ghost use Rattle.prepare.specs.Prepared.{startFlags, Arranged, Fields, Links, Prepared, Places};
-use board::Row;
 use request::Start;
 
 // The row numbers in sibling order, and the parents and numerals in that order.
@@ -76,48 +76,13 @@ fn flag_starts(
     }
 }
 
-// The fields of the first rows in sibling order; as many rows as `row` has places.
-fn arrange_rows(
-    rows: [Row; 1024],
-    minutes: &mut [i32],
-    row: &mut [u32],
-    parent: &mut [u32],
-    numeral: &mut [u32],
-    keys: &mut [u64],
-    scratch: &mut [u64],
-)
-    requires { ⌜ (length (now row) ≤ 1024) × (length (now minutes) ≡ length (now row)) × (length (now parent) ≡ length (now row)) × (length (now numeral) ≡ length (now row)) × (length (now keys) ≡ length (now row)) × (length (now scratch) ≡ length (now row)) ⌝ }
-    ensures { λ _. ⌜ Fields (take (length (now (row .entry))) rows) (now (minutes .exit)) (now (row .exit)) (now (parent .exit)) (now (numeral .exit)) ⌝ }
-{
-    let n = row.len();
-    let mut order = [0u32; 1024];
-    let mut parents = [0u32; 1024];
-    let mut numerals = [0u32; 1024];
-    links::read_rows(
-        rows,
-        &mut parents[..n],
-        &mut numerals[..n],
-        &mut order[..n],
-        minutes,
-    );
-    arrange(
-        &order[..n],
-        &parents[..n],
-        &numerals[..n],
-        row,
-        parent,
-        numeral,
-        keys,
-        scratch,
-    );
-}
-
-// Prepares a walk of the first rows; as many as each slice has places.
+// Prepares a walk of rows whose fields are lent, a slice for each.
 pub fn prepare(
-    rows: [Row; 1024],
     start: Start,
     list: &[u32],
-    minutes: &mut [i32],
+    order: &[u32],
+    parents: &[u32],
+    numerals: &[u32],
     row: &mut [u32],
     parent: &mut [u32],
     numeral: &mut [u32],
@@ -130,10 +95,19 @@ pub fn prepare(
     numeral_keys: &mut [u64],
     scratch: &mut [u64],
 )
-    requires { ⌜ Places (length (now row)) (length (now minutes)) (length (now row)) (length (now parent)) (length (now numeral)) (length (now child)) (length (now next)) (length (now class)) (length (now owner)) (length (now flags)) (length (now «parent_keys»)) (length (now «numeral_keys»)) (length (now scratch)) ⌝ }
-    ensures { λ _. ⌜ Prepared (take (length (now (row .entry))) rows) (startRule start (now (list .entry))) (now (minutes .exit)) (now (row .exit)) (now (parent .exit)) (now (numeral .exit)) (now (child .exit)) (now (next .exit)) (now (class .exit)) (now (owner .exit)) (now (flags .exit)) (now («numeral_keys» .exit)) ⌝ }
+    requires { ⌜ Places (length (now row)) (length (now order)) (length (now parents)) (length (now numerals)) (length (now parent)) (length (now numeral)) (length (now child)) (length (now next)) (length (now class)) (length (now owner)) (length (now flags)) (length (now «parent_keys»)) (length (now «numeral_keys»)) (length (now scratch)) ⌝ }
+    ensures { λ _. ⌜ ((R : List Row) → Fields R (now (order .entry)) (now (parents .entry)) (now (numerals .entry)) → Prepared R (startRule start (now (list .entry))) (now (row .exit)) (now (parent .exit)) (now (numeral .exit)) (now (child .exit)) (now (next .exit)) (now (class .exit)) (now (owner .exit)) (now (flags .exit)) (now («numeral_keys» .exit))) ⌝ }
 {
-    arrange_rows(rows, minutes, row, parent, numeral, parent_keys, scratch);
+    arrange(
+        order,
+        parents,
+        numerals,
+        row,
+        parent,
+        numeral,
+        parent_keys,
+        scratch,
+    );
     link(
         parent,
         numeral,

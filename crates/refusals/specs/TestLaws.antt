@@ -1,17 +1,18 @@
 -- The tests before a walk are refusals 7, 8 and 9. Assumes nothing.
 use mathlib.Core.Path.{_≡_, refl, sym, ap, ap₂, _∙_}
-use mathlib.Core.Bool.{Bool, true, false, not, _&&_, _||_}
+use mathlib.Core.Logic.{_⊎_, inl, inr}
+use mathlib.Core.Bool.{Bool, true, false, cond, not, _&&_, _||_}
 use mathlib.Core.List.{List}
 use Prim.Native.Nat.{ℕ, _+_, _-_, _*_, _≤_, _<_}
 use native.Mathlib.Omega.{arith}
-use borrow.Author.Tests.{eq-eqb, ne-eqb, lt-ltb, le-ltb, lt-leb, le-leb, ltb-false}
+use borrow.Author.Tests.{eq-eqb, ne-eqb, lt-ltb, le-ltb, lt-leb, le-leb, ltb-true, ltb-false}
 use lib.Dec.{leb, ltb}
 use lib.ListN.{length}
 use Rattle.options.specs.declared.Depth.{Depth}
 use Rattle.options.specs.declared.Depth.the-variants.{None, Limit}
 use Rattle.orphans.specs.Flags.{lastFlag, topFlags}
 use Rattle.paths.specs.Refusals.{given, refusal7, refusal9}
-use Rattle.refusals.specs.Tests.{capacityOf, lacksStart}
+use Rattle.refusals.specs.Tests.{capacityOf, lacksStart, earlyRefusal}
 
 -- ---- 7: a depth is given
 
@@ -90,3 +91,49 @@ depth-asked orphan depth t n e = e ∙ sym (ap (λ (s : Bool). given depth && no
     and-yes : (x : Bool) → (x && true) ≡ x
     and-yes true = refl
     and-yes false = refl
+
+-- ---- the tests in their order
+
+abbrev tests : Bool → Bool → Bool → ℕ
+tests x y z = cond x 8 (cond y 9 (cond z 9 0))
+
+module _ (lacks : Bool) (words totals : ℕ) where
+  pub early-eight : lacks ≡ true → 8 ≡ earlyRefusal lacks words totals
+  unfolding earlyRefusal
+  early-eight e = sym (ap (λ (x : Bool). tests x (ltb words 8) (ltb totals 1)) e)
+
+  module _ (no : lacks ≡ false) where
+    pub early-nine-index : words < 8 → 9 ≡ earlyRefusal lacks words totals
+    unfolding earlyRefusal
+    early-nine-index h = sym (ap₂ (λ (x y : Bool). tests x y (ltb totals 1)) no (lt-ltb words 8 h))
+
+    pub early-nine-totals : 8 ≤ words → totals < 1 → 9 ≡ earlyRefusal lacks words totals
+    unfolding earlyRefusal
+    early-nine-totals a h = sym (ap₂ (λ (x y : Bool). tests x y (ltb totals 1)) no (le-ltb words 8 a) ∙ ap (λ (z : Bool). tests false false z) (lt-ltb totals 1 h))
+
+    pub early-none : 8 ≤ words → 1 ≤ totals → 0 ≡ earlyRefusal lacks words totals
+    unfolding earlyRefusal
+    early-none a b = sym (ap₂ (λ (x y : Bool). tests x y (ltb totals 1)) no (le-ltb words 8 a) ∙ ap (λ (z : Bool). tests false false z) (le-ltb totals 1 b))
+
+-- what a number says of the tests
+pub early-clear : (lacks : Bool) (words totals : ℕ) → earlyRefusal lacks words totals ≡ 0 → (lacks ≡ false) × (8 ≤ words) × (1 ≤ totals)
+unfolding earlyRefusal
+early-clear lacks words totals e = go lacks refl (ltb words 8) refl (ltb totals 1) refl e
+  where
+    go : (x : Bool) → lacks ≡ x → (y : Bool) → ltb words 8 ≡ y → (z : Bool) → ltb totals 1 ≡ z → tests x y z ≡ 0 → (lacks ≡ false) × (8 ≤ words) × (1 ≤ totals)
+    go true a y b z d q = absurd (omega arith)
+    go false a true b z d q = absurd (omega arith)
+    go false a false b true d q = absurd (omega arith)
+    go false a false b false d q = (a, ltb-false words 8 b, ltb-false totals 1 d)
+
+pub early-met : (lacks : Bool) (words totals : ℕ) → (earlyRefusal lacks words totals ≡ 0 → ⊥)
+    → ((lacks ≡ true) × (earlyRefusal lacks words totals ≡ 8)) ⊎ ((lacks ≡ false) × (earlyRefusal lacks words totals ≡ 9) × ((n : ℕ) → refusal9 n words totals ≡ true))
+unfolding earlyRefusal
+early-met lacks words totals some = go lacks refl (ltb words 8) refl (ltb totals 1) refl some
+  where
+    go : (x : Bool) → lacks ≡ x → (y : Bool) → ltb words 8 ≡ y → (z : Bool) → ltb totals 1 ≡ z → (tests x y z ≡ 0 → ⊥)
+        → ((lacks ≡ true) × (tests x y z ≡ 8)) ⊎ ((lacks ≡ false) × (tests x y z ≡ 9) × ((n : ℕ) → refusal9 n words totals ≡ true))
+    go true a y b z d q = inl (a, refl)
+    go false a true b z d q = inr (a, refl, λ n. short-index n words totals (ltb-true words 8 b))
+    go false a false b true d q = inr (a, refl, λ n. short-totals n words totals (ltb-true totals 1 d))
+    go false a false b false d q = absurd (q refl)

@@ -3,7 +3,7 @@ ghost use mathlib.Core.Path.{_≡_};
 ghost use Prim.Native.Nat.{_≤_, min};
 ghost use lib.ListN.{length};
 ghost use Rattle.paths.specs.Refusals.{given, refusal7};
-ghost use Rattle.refusals.specs.Tests.{capacityOf, lacksStart};
+ghost use Rattle.refusals.specs.Tests.{capacityOf, lacksStart, earlyRefusal};
 use options::Depth;
 
 fn smaller(x: usize, y: usize) -> usize
@@ -41,7 +41,7 @@ pub fn is_depth_refused(orphan: u32, depth: Depth) -> bool
 }
 
 // Whether adopt meets a top orphan and there is no start row.
-pub fn lacks_start(
+fn lacks_start(
     orphan: u32,
     flags: &[u32],
     row: &[u32],
@@ -61,4 +61,31 @@ pub fn lacks_start(
     }
     orphans::flag_tops(row, reached, parent, owner, tops);
     orphans::last_flag(tops) < row.len()
+}
+
+// Refusal 8, refusal 9 where a slice has no room for an index or totals of no node, or 0.
+pub fn early_refusal(
+    orphan: u32,
+    flags: &[u32],
+    row: &[u32],
+    reached: &[u32],
+    parent: &[u32],
+    owner: &[u32],
+    tops: &mut [u32],
+    words: usize,
+    totals: usize,
+) -> u32
+    requires { ⌜ length (now row) ≡ length (now tops) ⌝ }
+    ensures { λ r. ⌜ r ≡ earlyRefusal (lacksStart orphan (now (flags .entry)) (now (row .entry)) (now (reached .entry)) (now (parent .entry)) (now (owner .entry))) words totals ⌝ }
+{
+    if lacks_start(orphan, flags, row, reached, parent, owner, tops) {
+        return 8;
+    }
+    if words < 8 {
+        return 9;
+    }
+    if totals < 1 {
+        return 9;
+    }
+    0
 }
