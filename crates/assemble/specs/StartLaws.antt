@@ -10,10 +10,10 @@ use borrow.Author.Tests.{lt-ltb, le-ltb, lt-leb, le-leb}
 use lib.Dec.{T, eqb, leb, ltb}
 use lib.ListN.{length, getD, replicate, length-replicate, getD-replicate}
 use lib.Seq.{ext-getD}
+use Rattle.lists.specs.Choice.{bit}
 use Rattle.lists.specs.Members.{_∈_, filter, filter-in, filter-out, numbers, numbers-in, map-in}
 use Rattle.lists.specs.Counting.{by-place, by-place-length}
 use Rattle.board.specs.declared.Row.{Row}
-use Rattle.image.specs.Layout.{bit}
 use Rattle.options.specs.declared.Depth.{Depth}
 use Rattle.options.specs.Options.{levelLimit}
 use Rattle.orphans.specs.Flags.{lastFlag, topFlags}

@@ -8,6 +8,7 @@ use native.Mathlib.Omega.{arith}
 use borrow.Author.Tests.{eq-eqb, ne-eqb}
 use lib.IntN.{ℤ, pos}
 use lib.ListN.{length, getD, replicate}
+use Rattle.board.specs.Journal.{blank}
 use Rattle.lists.specs.Members.{getD-in}
 use Rattle.lists.specs.Stores.{front}
 use Rattle.board.specs.declared.Row.{Row}
@@ -17,7 +18,7 @@ use Rattle.board.specs.Laws.{sound-numeral}
 use Rattle.image.specs.Layout.{imageWords}
 use Rattle.options.specs.declared.Depth.{Depth}
 use Rattle.options.specs.Options.{orphanOf}
-use Rattle.paths.specs.Rows.{noRow, num, RowOf}
+use Rattle.paths.specs.Rows.{num, RowOf}
 use Rattle.paths.specs.Nodes.{nodes}
 use Rattle.paths.specs.Bodies.{bodies, runningTotals}
 use Rattle.paths.specs.Refusals.{orphanChoice, refusal6, refusal7, refusalOf}
@@ -80,7 +81,7 @@ attempt-ran b code depth start index index′ totals totals′ r s w =
 -- each row of a sound board has a numeral
 pub sound-numbered : (b : Board) → soundOf b ≡ true → (x : ℕ) → RowOf (rowsOf b) x → num (rowsOf b) x ≢ 0
 sound-numbered b s zero r z = absurd (omega (arith, r))
-sound-numbered b s (suc k) r z = absurd (omega (arith, sound-numeral b s (getD (rowsOf b) k noRow) (getD-in (rowsOf b) k noRow (omega (arith, r)))))
+sound-numbered b s (suc k) r z = absurd (omega (arith, sound-numeral b s (getD (rowsOf b) k blank) (getD-in (rowsOf b) k blank (omega (arith, r)))))
 
 -- ---- the whole build
 
