@@ -1,84 +1,92 @@
 -- `board::Board::add` meets its contract. Assumes nothing.
-use Prim.Native.Nat.{_-_}
+use Prim.Native.Nat.{ℕ, _<_}
 use native.Mathlib.Omega.{arith}
-use mathlib.Core.Path.{_≡_, _∙_, sym}
-use mathlib.Core.Logic.{⊎-elim}
+use mathlib.Core.Path.{_≡_, ap, _∙_, sym}
+use mathlib.Core.Bool.{cond, not}
 use lib.ListN.{length}
 use borrow.Author.Needs.{needs}
+use borrow.Author.Tests.{ne-eqb}
 use Rattle.lists.specs.Stores.{length-mapped}
-use Rattle.board.specs.declared.Entry.{Entry}
-use Rattle.board.specs.Journal.{pushed}
-use Rattle.board.specs.Edits.{entriesOf, withEntries, addRefusal, addOf}
-use Rattle.board.specs.Laws.{sound-kept}
-use Rattle.board.proofs.Edits.{keep-room, keep-full, add-none, refused-by, accepted-by, add-board}
+use Rattle.board.specs.Edits.{entriesOf, withEntries, soundOf, addRefusal, addOf}
+use Rattle.board.specs.Tests.{roomFor}
+use Rattle.board.proofs.Judged.{refusal-is, given-back, judged-room, room-kept, room-pushed}
+use Rattle.board.proofs.Edits.{add-none, refused-by, accepted-by, add-board}
 use Rattle.board.proofs.Board.add.Statement.{statement}
 use Rattle.board.proofs.Board.add.Tie as tie
 
--- where nothing refuses
-taken : (c : tie.Else1) → addRefusal (c .before .before .args .t1) (c .before .before .args .row) ≡ 0
-taken c = sym (c .before .add-refusal .ensures) ∙ c .if1 .left
+refusal : (c : tie.After-first-refusal) → c .first-refusal .result ≡ addRefusal (c .before .before .before .args .self) (c .before .before .before .args .row)
+unfolding addRefusal
+refusal c =
+    refusal-is _ _ _ _ _ (c .before .judged .ensures) (c .first-refusal .ensures)
+    ∙ ap (λ (q : ℕ). cond (not (soundOf (c .before .before .before .args .self))) 1 q) (c .before .before .add-refusal .ensures)
 
-long : (c : tie.Else1) → (length (c .before .before .args .t1 .rows) ≡ 1024) × (length (c .before .before .args .t1 .journal) ≡ 256)
+-- where nothing refuses
+taken : (c : tie.Else1) → addRefusal (c .before .before .before .before .args .self) (c .before .before .before .before .args .row) ≡ 0
+taken c = sym (refusal (c .before)) ∙ c .if1 .left
+
+small : (c : tie.Else1) → c .before .before .before .before .args .self .count < 1024
+small c = add-none _ _ (taken c) .1
+
+long : (c : tie.Else1) → (length (c .before .before .before .before .args .self .rows) ≡ 1024) × (length (c .before .before .before .before .args .self .journal) ≡ 256)
 long c = (search (needs, length-mapped), search (needs, length-mapped))
 
-entry : (c : tie.Else1) → Entry
-entry c = record { kind = 0; at = c .before .before .args .t1 .count; row = c .before .before .args .row }
+room : (c : tie.Else1) → c .before .before .judged .result ≡ withEntries (c .before .before .before .before .args .self) (roomFor (entriesOf (c .before .before .before .before .args .self)))
+room c = judged-room _ _ _ _ (c .before .before .judged .ensures) (c .before .first-refusal .ensures) (c .if1 .left)
 
--- both ways store the entry
-kept : (c : tie.Joined2) → c .if2 .self ≡ withEntries (c .before .before .before .args .t1) (pushed (entriesOf (c .before .before .before .args .t1)) (entry (c .before)))
-unfolding entry
-kept c =
-    let b = c .before .before .before .args .t1 in
-    let s = sound-kept b (add-none b _ (taken (c .before)) .0) in
-    ⊎-elim (λ x. x .1 ∙ keep-room b (entry (c .before)) (long (c .before) .1) (x .0 .taken))
-    (λ x. x .3 ∙ keep-full b (entry (c .before)) (x .2 .result) (long (c .before) .1) (omega (arith, s, x .0 .left)) (x .2 .ensures)) (c .if2 .came)
+place : (c : tie.Else1) → c .before .before .judged .result .kept < 256
+place c = room-kept (c .before .before .before .before .args .self) _ (long c .1) (room c)
 
 add-refusal-requires : tie.Need-add-refusal-requires
 add-refusal-requires c κs = search needs
 
+judged-requires : tie.Need-judged-requires
+judged-requires c κs = search needs
+
+first-refusal-requires : tie.Need-first-refusal-requires
+first-refusal-requires c κs = search needs
+
 returns : tie.Need-returns
 unfolding addOf
-returns c = refused-by _ _ _ _ (c .before .add-refusal .ensures) (c .if1 .taken)
+returns c =
+    let j = c .before .before in
+    refused-by _ _ _ _ _ (given-back _ _ _ _ _ (j .judged .ensures) (c .before .first-refusal .ensures) (c .if1 .taken) (ne-eqb _ 0)) (refusal (c .before)) (c .if1 .taken)
 
 mul-entry : tie.Need-mul-entry
-mul-entry c = search needs
+mul-entry c = record { fits = omega (arith, place c) }
 
 element-set-from-entry : tie.Need-element-set-from-entry
-element-set-from-entry c = search needs
+element-set-from-entry c = place c
 
-add-self : tie.Need-add-self
-add-self c = search needs
-
-renew-requires : tie.Need-renew-requires
-renew-requires c κs = search needs
+add-next : tie.Need-add-next
+add-next c = record { fits = omega (arith, place c) }
 
 mul-row : tie.Need-mul-row
-mul-row c = record { fits = omega (arith, add-none _ _ (taken (c .before)) .1) }
+mul-row c = record { fits = omega (arith, small c) }
 
 element-set-from-row : tie.Need-element-set-from-row
-element-set-from-row c = omega (arith, add-none _ _ (taken (c .before)) .1)
+element-set-from-row c = small c
 
-add-self-2 : tie.Need-add-self-2
-add-self-2 c = record { fits = omega (arith, add-none _ _ (taken (c .before)) .1) }
+add-next-2 : tie.Need-add-next-2
+add-next-2 c = record { fits = omega (arith, small c) }
 
 returns-2 : tie.Need-returns-2
-unfolding addOf entry
+unfolding addOf
 returns-2 c =
-    let b = c .before .before .before .args .t1 in
-    accepted-by _ _ _ _ (taken (c .before))
-    (add-board b (c .if2 .self) _ (kept c) (long (c .before) .0) _ (add-none b _ (taken (c .before)) .1))
+    let b = c .before .before .before .before .args .self in
+    accepted-by _ _ _ _ (taken c) (add-board b _ _ (room-pushed b _ (long c .1) (room c) _) (long c .0) _ (small c))
 
 pub add-spec : {M : Type 1} → statement M
 add-spec =
     tie.close
     (tie.spec
     add-refusal-requires
+    judged-requires
+    first-refusal-requires
     returns
     mul-entry
     element-set-from-entry
-    add-self
-    renew-requires
+    add-next
     mul-row
     element-set-from-row
-    add-self-2
+    add-next-2
     returns-2)

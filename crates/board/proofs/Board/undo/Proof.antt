@@ -1,9 +1,9 @@
 -- `board::Board::undo` meets its contract. Assumes nothing.
 use Prim.Native.Nat.{ℕ, _≤_, _<_, _-_, _+_}
 use native.Mathlib.Omega.{arith}
-use mathlib.Core.Path.{_≡_, ap, _∙_, sym}
+use mathlib.Core.Path.{_≡_, refl, ap, _∙_, sym}
 use mathlib.Core.Logic.{⊎-elim}
-use mathlib.Core.Bool.{true, false}
+use mathlib.Core.Bool.{true, false, cond, not}
 use mathlib.Core.List.{List}
 use lib.ListN.{length, getD, set}
 use lib.Dec.{eqb}
@@ -16,6 +16,7 @@ use Rattle.board.specs.declared.Board.{Board}
 use Rattle.board.specs.Journal.{blank, undone}
 use Rattle.board.specs.Edits.{rowsOf, newestOf, withRows, withoutNewest, soundOf, undoRefusal, undoOf}
 use Rattle.board.specs.Laws.{sound-count, sound-kept}
+use Rattle.board.proofs.Judged.{refusal-is, given-back, judged-plain}
 use Rattle.board.proofs.Edits.{undo-none, refused-by, accepted-by, undo-some, undo-add, undo-place, undo-room, undo-withdraw, undo-row, undo-remark}
 use Rattle.board.proofs.Board.undo.Statement.{statement}
 use Rattle.board.proofs.Board.undo.Tie as tie
@@ -24,42 +25,59 @@ use Rattle.board.proofs.Board.undo.Tie as tie
 abbrev stored : Board → List Row → Board
 stored b p = record { count = b .count; rows = p; kept = b .kept; journal = b .journal }
 
+-- what undo leaves
+abbrev undoneBoard : Board → Board
+undoneBoard b = withRows (withoutNewest b) (undone (newestOf b) (rowsOf b))
+
 abbrev Inv-loop : tie.InvT-loop
-Inv-loop self₀ refusal last entry count kind at i₀ self i =
-    (at ≤ i) × (i ≤ count) × (count < 1024) × (length (self₀ .rows) ≡ 1024) × (self ≡ stored self₀ (opening (self₀ .rows) i count))
+Inv-loop other next₀ refusal last entry count kind at i₀ next i =
+    (at ≤ i) × (i ≤ count) × (count < 1024) × (length (next₀ .rows) ≡ 1024) × (next ≡ stored next₀ (opening (next₀ .rows) i count))
 
 abbrev μ-loop : tie.MeasureT-loop
-μ-loop self₀ refusal last entry count kind at i₀ self i = i
+μ-loop other next₀ refusal last entry count kind at i₀ next i = i
+
+refusal : (c : tie.After-first-refusal Inv-loop μ-loop) → c .first-refusal .result ≡ undoRefusal (c .before .before .before .args .self)
+unfolding undoRefusal
+refusal c =
+    refusal-is _ _ _ _ _ (c .before .judged .ensures) (c .first-refusal .ensures)
+    ∙ ap (λ (q : ℕ). cond (not (soundOf (c .before .before .before .args .self))) 1 q) (c .before .before .undo-refusal .ensures)
 
 -- where nothing refuses
-taken : (c : tie.Else1 Inv-loop μ-loop) → undoRefusal (c .before .before .args .t1) ≡ 0
-taken c = sym (c .before .undo-refusal .ensures) ∙ c .if1 .left
+taken : (c : tie.Else1 Inv-loop μ-loop) → undoRefusal (c .before .before .before .before .args .self) ≡ 0
+taken c = sym (refusal (c .before)) ∙ c .if1 .left
 
-sound : (c : tie.Else1 Inv-loop μ-loop) → soundOf (c .before .before .args .t1) ≡ true
-sound c = undo-none _ (taken c) .0
+-- the board is the one that came
+same : (c : tie.Else1 Inv-loop μ-loop) → c .before .before .judged .result ≡ c .before .before .before .before .args .self
+same c = judged-plain _ _ (c .before .before .judged .ensures) (undo-none _ (taken c) .0)
 
-some : (c : tie.Else1 Inv-loop μ-loop) → eqb (c .before .before .args .t1 .kept) 0 ≡ false
-some c = undo-none _ (taken c) .1
+sound : (c : tie.Else1 Inv-loop μ-loop) → soundOf (c .before .before .judged .result) ≡ true
+sound c = ap soundOf (same c) ∙ undo-none _ (taken c) .0
 
-long : (c : tie.Else1 Inv-loop μ-loop) → length (c .before .before .args .t1 .rows) ≡ 1024
-long c = search (needs, length-mapped)
+some : (c : tie.Else1 Inv-loop μ-loop) → eqb (c .before .before .judged .result .kept) 0 ≡ false
+some c = ap (λ (x : Board). eqb (x .kept) 0) (same c) ∙ undo-none _ (taken c) .1
+
+given : (c : tie.Else1 Inv-loop μ-loop) → length (c .before .before .before .before .args .self .rows) ≡ 1024
+given c = search (needs, length-mapped)
+
+long : (c : tie.Else1 Inv-loop μ-loop) → length (c .before .before .judged .result .rows) ≡ 1024
+long c = ap (λ (x : Board). length (x .rows)) (same c) ∙ given c
 
 -- a place that the rows have, whichever the kind
-place : (c : tie.Joined3 Inv-loop μ-loop) → newestOf (c .before .before .before .before .before .args .t1) .at < 1024
+place : (c : tie.Joined3 Inv-loop μ-loop) → newestOf (c .before .before .before .before .before .judged .result) .at < 1024
 place c =
     let e1 = c .before .before .before in
-    let b = e1 .before .before .args .t1 in
+    let b = e1 .before .before .judged .result in
     let k₀ = c .before .if2 .left in
     ⊎-elim (λ x. omega (arith, undo-place b (sound e1) (long e1) (some e1) k₀ (x .0 .taken), undo-room b (sound e1) (long e1) (some e1) k₀ (x .0 .taken)))
     (λ x. omega (arith, undo-row b (sound e1) (long e1) (some e1) k₀ (x .0 .left), sound-count b (sound e1))) (c .if3 .came)
 
 -- the row goes to its place in both ways
 after : (c : tie.Joined3 Inv-loop μ-loop)
-    → stored (c .if3 .self) (set (c .if3 .self .rows) (newestOf (c .before .before .before .before .before .args .t1) .at) (newestOf (c .before .before .before .before .before .args .t1) .row))
-    ≡ withRows (withoutNewest (c .before .before .before .before .before .args .t1)) (undone (newestOf (c .before .before .before .before .before .args .t1)) (rowsOf (c .before .before .before .before .before .args .t1)))
+    → stored (c .if3 .next) (set (c .if3 .next .rows) (newestOf (c .before .before .before .before .before .judged .result) .at) (newestOf (c .before .before .before .before .before .judged .result) .row))
+    ≡ undoneBoard (c .before .before .before .before .before .judged .result)
 after c =
     let e1 = c .before .before .before in
-    let b = e1 .before .before .args .t1 in
+    let b = e1 .before .before .judged .result in
     let n = newestOf b in
     let k₀ = c .before .if2 .left in
     ⊎-elim (λ x.
@@ -75,49 +93,57 @@ after c =
 undo-refusal-requires : tie.Need-undo-refusal-requires Inv-loop μ-loop
 undo-refusal-requires c κs = search needs
 
+judged-requires : tie.Need-judged-requires Inv-loop μ-loop
+judged-requires c κs = search needs
+
+first-refusal-requires : tie.Need-first-refusal-requires Inv-loop μ-loop
+first-refusal-requires c κs = search needs
+
 returns : tie.Need-returns Inv-loop μ-loop
 unfolding undoOf
-returns c = refused-by _ _ _ _ (c .before .undo-refusal .ensures) (c .if1 .taken)
+returns c =
+    let j = c .before .before in
+    refused-by _ _ _ _ _ (given-back _ _ _ _ _ (j .judged .ensures) (c .before .first-refusal .ensures) (c .if1 .taken) (λ h. refl)) (refusal (c .before)) (c .if1 .taken)
 
 sub-last : tie.Need-sub-last Inv-loop μ-loop
-sub-last c = omega (arith, eqb-false (c .before .before .args .t1 .kept) 0 (some c))
+sub-last c = omega (arith, eqb-false (c .before .before .judged .result .kept) 0 (some c))
 
 mul-entry : tie.Need-mul-entry Inv-loop μ-loop
 mul-entry c = record { fits = omega (arith, sound-kept _ (sound c)) }
 
 element-copy-out-entry : tie.Need-element-copy-out-entry Inv-loop μ-loop
-element-copy-out-entry c = omega (arith, sound-kept _ (sound c), eqb-false (c .before .before .args .t1 .kept) 0 (some c))
+element-copy-out-entry c = omega (arith, sound-kept _ (sound c), eqb-false (c .before .before .judged .result .kept) 0 (some c))
 
-sub-self : tie.Need-sub-self Inv-loop μ-loop
-sub-self c = let e1 = c .before .before in undo-some (e1 .before .before .args .t1) (sound e1) (long e1) (some e1) (c .if2 .taken)
+sub-next : tie.Need-sub-next Inv-loop μ-loop
+sub-next c = let e1 = c .before .before in undo-some (e1 .before .before .judged .result) (sound e1) (long e1) (some e1) (c .if2 .taken)
 
 returns-2 : tie.Need-returns-2 Inv-loop μ-loop
 unfolding undoOf
 returns-2 c =
     let e1 = c .before .before in
-    accepted-by _ _ _ _ (taken e1) (undo-add (e1 .before .before .args .t1) (sound e1) (long e1) (some e1) (c .if2 .taken))
+    accepted-by _ _ _ _ (taken e1) (undo-add (e1 .before .before .judged .result) (sound e1) (long e1) (some e1) (c .if2 .taken) ∙ ap undoneBoard (same e1))
 
 loop-holds : tie.Need-loop-holds Inv-loop μ-loop
 loop-holds c =
     let e1 = c .before .before .before in
-    let b = e1 .before .before .args .t1 in
+    let b = e1 .before .before .judged .result in
     let k₀ = c .before .if2 .left in
     (undo-place b (sound e1) (long e1) (some e1) k₀ (c .if3 .taken), omega arith, undo-room b (sound e1) (long e1) (some e1) k₀ (c .if3 .taken), long e1, λ i. stored (withoutNewest b) (opening-start (b .rows) (b .count) i))
 
-sub-self-2 : tie.Need-sub-self-2 Inv-loop μ-loop
-sub-self-2 c = search needs
+sub-next-2 : tie.Need-sub-next-2 Inv-loop μ-loop
+sub-next-2 c = search needs
 
-mul-self : tie.Need-mul-self Inv-loop μ-loop
-mul-self c = search needs
+mul-next : tie.Need-mul-next Inv-loop μ-loop
+mul-next c = search needs
 
-element-copy-out-self : tie.Need-element-copy-out-self Inv-loop μ-loop
-element-copy-out-self c = search needs
+element-copy-out-next : tie.Need-element-copy-out-next Inv-loop μ-loop
+element-copy-out-next c = search needs
 
-mul-t26 : tie.Need-mul-t26 Inv-loop μ-loop
-mul-t26 c = search needs
+mul-t27 : tie.Need-mul-t27 Inv-loop μ-loop
+mul-t27 c = search needs
 
-element-set-from-self : tie.Need-element-set-from-self Inv-loop μ-loop
-element-set-from-self c = search needs
+element-set-from-next : tie.Need-element-set-from-next Inv-loop μ-loop
+element-set-from-next c = search needs
 
 sub-i : tie.Need-sub-i Inv-loop μ-loop
 sub-i c = search needs
@@ -129,11 +155,11 @@ loop-again : tie.Need-loop-again Inv-loop μ-loop
 loop-again c =
     let l = c .before .before .loop in
     let v = l .inv in
-    let b = c .before .before .before .before .before .before .before .before .args .t1 in
+    let b = c .before .before .before .before .before .before .before .before .judged .result in
     (omega arith, omega arith, v .2, v .3, ap (λ (x : Board). stored x (set (x .rows) (l .i) (getD (x .rows) (l .i - 1) blank))) (v .4) ∙ (λ i. stored (withoutNewest b) (opening-step (b .rows) (l .i) (b .count) blank (omega arith) (v .1) (omega arith) i)))
 
-add-self : tie.Need-add-self Inv-loop μ-loop
-add-self c = search needs
+add-next : tie.Need-add-next Inv-loop μ-loop
+add-next c = search needs
 
 mul-row : tie.Need-mul-row Inv-loop μ-loop
 mul-row c = record { fits = omega (arith, place (c .before)) }
@@ -143,7 +169,9 @@ element-set-from-row c = place (c .before)
 
 returns-3 : tie.Need-returns-3 Inv-loop μ-loop
 unfolding undoOf
-returns-3 c = accepted-by _ _ _ _ (taken (c .before .before .before .before)) (after (c .before))
+returns-3 c =
+    let e1 = c .before .before .before .before in
+    accepted-by _ _ _ _ (taken e1) (after (c .before) ∙ ap undoneBoard (same e1))
 
 pub undo-spec : {M : Type 1} → statement M
 undo-spec =
@@ -152,22 +180,24 @@ undo-spec =
     Inv-loop
     μ-loop
     undo-refusal-requires
+    judged-requires
+    first-refusal-requires
     returns
     sub-last
     mul-entry
     element-copy-out-entry
-    sub-self
+    sub-next
     returns-2
     loop-holds
-    sub-self-2
-    mul-self
-    element-copy-out-self
-    mul-t26
-    element-set-from-self
+    sub-next-2
+    mul-next
+    element-copy-out-next
+    mul-t27
+    element-set-from-next
     sub-i
     loop-less
     loop-again
-    add-self
+    add-next
     mul-row
     element-set-from-row
     returns-3)
