@@ -258,6 +258,13 @@ fn build_few(
     let mut parents = [0u32; 64];
     let mut numerals = [0u32; 64];
     let mut minutes = [0i32; 64];
+    links::read_rows(
+        rows,
+        &mut parents[..n],
+        &mut numerals[..n],
+        &mut order[..n],
+        &mut minutes[..n],
+    );
     let mut row = [0u32; 64];
     let mut parent = [0u32; 64];
     let mut numeral = [0u32; 64];
@@ -272,13 +279,6 @@ fn build_few(
     let mut reached = [0u32; 64];
     let mut masked = [0u32; 64];
     let mut marks = [0u32; 64];
-    links::read_rows(
-        rows,
-        &mut parents[..n],
-        &mut numerals[..n],
-        &mut order[..n],
-        &mut minutes[..n],
-    );
     run(
         code,
         depth,
@@ -325,6 +325,13 @@ fn build_many(
     let mut parents = [0u32; 1024];
     let mut numerals = [0u32; 1024];
     let mut minutes = [0i32; 1024];
+    links::read_rows(
+        rows,
+        &mut parents[..n],
+        &mut numerals[..n],
+        &mut order[..n],
+        &mut minutes[..n],
+    );
     let mut row = [0u32; 1024];
     let mut parent = [0u32; 1024];
     let mut numeral = [0u32; 1024];
@@ -339,13 +346,6 @@ fn build_many(
     let mut reached = [0u32; 1024];
     let mut masked = [0u32; 1024];
     let mut marks = [0u32; 1024];
-    links::read_rows(
-        rows,
-        &mut parents[..n],
-        &mut numerals[..n],
-        &mut order[..n],
-        &mut minutes[..n],
-    );
     run(
         code,
         depth,

@@ -39,8 +39,7 @@ fn attempt(
     if 23 < code {
         return request::refused(6);
     }
-    let choice = options::choices(code as usize);
-    if refusals::is_depth_refused(choice.orphan, depth) {
+    if refusals::is_depth_refused(code % 4, depth) {
         return request::refused(7);
     }
     let rows = board.rows;

@@ -18,7 +18,8 @@ use Rattle.paths.specs.ForestLaws.{memb-in, memb-out}
 use Rattle.paths.specs.Rows.{row, num, par, siblings, parentZero, numeralIn}
 use Rattle.paths.specs.Nodes.{sorted, starts}
 use Rattle.links.specs.Links.{firstFrom, of, firsts, Ordered}
-use Rattle.links.specs.Keys.{first-out, getD-firsts, length-firsts, member-at}
+use Rattle.sorting.specs.KeyLaws.{member-at}
+use Rattle.links.specs.Keys.{first-out, getD-firsts, length-firsts}
 use Rattle.links.specs.Rows.{of-row}
 use Rattle.links.specs.Chains.{places-from}
 use Rattle.links.specs.Children.{sorted-numbered, rows-long, parent-long, numeral-long, parent-at, numeral-at}

@@ -44,7 +44,7 @@ fn link(
     requires { ⌜ (length (now «parent_keys») ≡ length (now parent)) × (length (now «numeral_keys») ≡ length (now parent)) × (length (now scratch) ≡ length (now parent)) ⌝ }
     ensures { λ _. ⌜ Links (now (parent .entry)) (now (numeral .entry)) (now (child .exit)) (now (next .exit)) (now (class .exit)) (now (owner .exit)) (now («numeral_keys» .exit)) ⌝ }
 {
-    links::sort_keys(numeral, numeral_keys, scratch);
+    sorting::sort_keys(numeral, numeral_keys, scratch);
     links::link_children(
         parent,
         numeral,

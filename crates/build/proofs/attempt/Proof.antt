@@ -1,7 +1,5 @@
-use mathlib.Core.Path.{sym, ap, _∙_}
+use mathlib.Core.Path.{sym, _∙_}
 use borrow.Author.Tests.{not-true, not-false, lt-ltb, le-ltb}
-use Rattle.options.specs.declared.Choice.{Choice}
-use Rattle.paths.specs.Refusals.{refusal7}
 use Rattle.board.specs.Laws.{sound-count}
 use Rattle.build.specs.BuildLaws.{by-six, by-seven, attempt-sound, attempt-unsound, attempt-ran, attempt-as, sound-numbered}
 use borrow.Author.Needs.{needs}
@@ -29,9 +27,6 @@ returns-2 c =
     let y = sym (c .before .before .before .sound .ensures) ∙ not-false (c .before .before .before .sound .result) (c .before .before .if1 .left) in
     attempt-as _ _ _ _ _ _ _ _ 6 _ (c .refused2 .ensures) (attempt-sound _ _ _ _ _ _ _ _ 6 y (by-six _ _ _ _ _ _ (lt-ltb 23 (c .before .before .before .before .before .before .args .code) (c .before .if2 .taken))) (λ z. absurd (omega arith)))
 
-choices-requires : tie.Need-choices-requires
-choices-requires c κs = search needs
-
 is-depth-refused-requires : tie.Need-is-depth-refused-requires
 is-depth-refused-requires c κs = search needs
 
@@ -40,15 +35,15 @@ refused-requires-3 c κs = search needs
 
 returns-3 : tie.Need-returns-3
 returns-3 c =
-    let y = sym (c .before .before .before .before .before .before .sound .ensures) ∙ not-false (c .before .before .before .before .before .before .sound .result) (c .before .before .before .before .before .if1 .left) in
-    let seven = ap (λ (x : Choice). refusal7 (x .orphan) (c .before .before .before .before .before .before .before .before .before .args .depth)) (sym (c .before .before .before .choices .ensures)) ∙ sym (c .before .before .is-depth-refused .ensures) ∙ c .before .if3 .taken in
-    attempt-as _ _ _ _ _ _ _ _ 7 _ (c .refused3 .ensures) (attempt-sound _ _ _ _ _ _ _ _ 7 y (by-seven _ _ _ _ _ _ (le-ltb 23 (c .before .before .before .before .before .before .before .before .before .args .code) (c .before .before .before .before .if2 .left)) seven) (λ z. absurd (omega arith)))
+    let y = sym (c .before .before .before .before .before .sound .ensures) ∙ not-false (c .before .before .before .before .before .sound .result) (c .before .before .before .before .if1 .left) in
+    let seven = sym (c .before .before .is-depth-refused .ensures) ∙ c .before .if3 .taken in
+    attempt-as _ _ _ _ _ _ _ _ 7 _ (c .refused3 .ensures) (attempt-sound _ _ _ _ _ _ _ _ 7 y (by-seven _ _ _ _ _ _ (le-ltb 23 (c .before .before .before .before .before .before .before .before .args .code) (c .before .before .before .if2 .left)) seven) (λ z. absurd (omega arith)))
 
 build-rows-requires : tie.Need-build-rows-requires
 build-rows-requires c κs =
-    let y = sym (c .before .before .before .before .before .before .before .before .sound .ensures) ∙ not-false (c .before .before .before .before .before .before .before .before .sound .result) (c .before .before .before .before .before .before .before .if1 .left) in
-    let seven = ap (λ (x : Choice). refusal7 (x .orphan) (c .before .before .before .before .before .before .before .before .before .before .before .args .depth)) (sym (c .before .before .before .before .before .choices .ensures)) ∙ sym (c .before .before .before .before .is-depth-refused .ensures) ∙ c .before .before .before .if3 .left in
-    (sound-count _ y, le-ltb 23 (c .before .before .before .before .before .before .before .before .before .before .before .args .code) (c .before .before .before .before .before .before .if2 .left), seven, sound-numbered _ y)
+    let y = sym (c .before .before .before .before .before .before .before .sound .ensures) ∙ not-false (c .before .before .before .before .before .before .before .sound .result) (c .before .before .before .before .before .before .if1 .left) in
+    let seven = sym (c .before .before .before .before .is-depth-refused .ensures) ∙ c .before .before .before .if3 .left in
+    (sound-count _ y, le-ltb 23 (c .before .before .before .before .before .before .before .before .before .before .args .code) (c .before .before .before .before .before .if2 .left), seven, sound-numbered _ y)
 
 same-length : tie.Need-same-length
 same-length c = search needs
@@ -58,7 +53,7 @@ same-length-2 c = search needs
 
 returns-4 : tie.Need-returns-4
 returns-4 c =
-    let y = sym (c .before .before .before .before .before .before .before .before .before .before .before .before .sound .ensures) ∙ not-false (c .before .before .before .before .before .before .before .before .before .before .before .before .sound .result) (c .before .before .before .before .before .before .before .before .before .before .before .if1 .left) in
+    let y = sym (c .before .before .before .before .before .before .before .before .before .before .before .sound .ensures) ∙ not-false (c .before .before .before .before .before .before .before .before .before .before .before .sound .result) (c .before .before .before .before .before .before .before .before .before .before .if1 .left) in
     attempt-ran _ _ _ _ _ _ _ _ _ y (c .before .before .before .build-rows .ensures)
 
 pub attempt-spec : {M : Type 1} → statement M
@@ -70,7 +65,6 @@ attempt-spec =
     returns
     refused-requires-2
     returns-2
-    choices-requires
     is-depth-refused-requires
     refused-requires-3
     returns-3
