@@ -183,19 +183,3 @@ module _ {A : Type 0} where
       sym (take-append-drop m p)
       ∙ ap (λ (r : List A). r ++ drop m p) (sym (take-take m n p h))
       ∙ front-of (take m (take n p)) p m (length-take-le m (take n p) (rw (length-take-le n p b) h))
-
-  -- ---- full: the first is dropped and one more stands last
-
-  length-rest : (p : List A) (n : ℕ) → n < length p → length (slice 1 (suc n) p) ≡ n
-  length-rest p n h = let e : suc n - 1 ≡ n = omega arith in length-slice 1 (suc n) p h ∙ e
-
-  pub length-newest : (p : List A) (n : ℕ) (a : A) → n < length p → length (drop 1 (take (suc n) p) ++ (a ∷ [])) ≡ suc n
-  length-newest p n a h = length-append (drop 1 (take (suc n) p)) (a ∷ []) ∙ ap (λ (m : ℕ). m + 1) (length-rest p n h) ∙ add-one n
-
-  pub front-newest : (p : List A) (n : ℕ) (a d : A) → n < length p → set (closing p 0 n) n a ≡ front (drop 1 (take (suc n) p) ++ (a ∷ [])) p
-  unfolding closing
-  front-newest p n a d h =
-      ap (λ (r : List A). set (slice 1 (suc n) p ++ r) n a) (drop-cons p n d h)
-      ∙ set-at (slice 1 (suc n) p) (getD p n d) (drop (suc n) p) a n (length-rest p n h)
-      ∙ sym (append-snoc (slice 1 (suc n) p) a (drop (suc n) p))
-      ∙ front-of (slice 1 (suc n) p ++ (a ∷ [])) p (suc n) (length-newest p n a h)
