@@ -1,17 +1,16 @@
 // The enumeration of a board's nodes: the regular paths, then under adopt and root the orphan paths.
 ghost use mathlib.Core.Path.{_≡_};
 ghost use mathlib.Core.Bool.{Bool, true};
-ghost use mathlib.Core.List.{List, map};
-ghost use Prim.Native.Nat.{ℕ, _+_, _*_, _≤_, _<_};
-ghost use lib.Dec.{ltb};
+ghost use mathlib.Core.List.{List};
+ghost use Prim.Native.Nat.{_+_, _*_, _≤_, _<_};
 ghost use lib.ListN.{length, replicate, getD};
 ghost use Rattle.board.specs.declared.Row.{Row};
-ghost use Rattle.links.specs.Links.{keysOf, firsts, nexts};
+ghost use Rattle.links.specs.Links.{keysOf};
 ghost use Rattle.options.specs.declared.Depth.the-variants.{None};
 ghost use Rattle.passes.specs.Passes.{Named, rowsTo, reachedFlags};
 ghost use Rattle.paths.specs.Bodies.{bodies};
 ghost use Rattle.paths.specs.Refusals.{orphanChoice};
-ghost use Rattle.walk.specs.Walk.{Whole, Walked, Clear};
+ghost use Rattle.walk.specs.Walk.{Whole, Walked};
 ghost use Rattle.enumerate.specs.Enumerate.{Ready, AnyReady, AnyStarts, StartFlags, Spare, StartsWalked, OrphansLinked, orphanLevel, orphansFrom, Raised, Adopted};
 use options::Depth;
 use walk::Met;

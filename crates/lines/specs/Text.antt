@@ -1,7 +1,7 @@
 -- A text as lines, what its lines say in order, and what a scan over it takes, as definitions. Assumes nothing.
 use Prim.Native.Nat.{ℕ, _+_}
 use mathlib.Core.List.{List, [], _∷_, _++_}
-use mathlib.Core.Bool.{Bool, cond, not, _&&_}
+use mathlib.Core.Bool.{cond}
 use lib.Dec.{eqb}
 use lib.IntN.{ℤ}
 use Rattle.lines.specs.Grammar.{Line}

@@ -1,8 +1,8 @@
 -- Owners and flags over the places of a board's rows: which parents are no row's numeral, which rows start a path, and the rows at the flagged places. Assumes nothing.
-use mathlib.Core.Path.{_≡_, refl, sym, ap, ap₂, subst, _∙_}
-use mathlib.Core.Bool.{Bool, true, false, cond, not}
-use mathlib.Core.List.{List, [], _∷_, map}
-use Prim.Native.Nat.{ℕ, zero, suc, _+_, _-_, _≤_, _<_}
+use mathlib.Core.Path.{_≡_, refl, sym, ap, subst, _∙_}
+use mathlib.Core.Bool.{Bool, not}
+use mathlib.Core.List.{List, map}
+use Prim.Native.Nat.{ℕ, suc, _+_, _-_, _≤_, _<_}
 use native.Mathlib.Omega.{arith}
 use native.Mathlib.Decide.{decLt}
 use borrow.Author.Tests.{le-leb, lt-leb}
@@ -22,7 +22,7 @@ use Rattle.sorting.specs.KeyLaws.{member-at}
 use Rattle.links.specs.Keys.{first-out, getD-firsts, length-firsts}
 use Rattle.links.specs.Rows.{of-row}
 use Rattle.links.specs.Chains.{places-from}
-use Rattle.links.specs.Children.{sorted-numbered, rows-long, parent-long, numeral-long, parent-at, numeral-at}
+use Rattle.links.specs.Children.{sorted-numbered, parent-long, numeral-long, parent-at, numeral-at}
 
 -- the rows at the flagged places from i on, m places
 pub flagged-rows : (f : ℕ → Bool) (rows flags : List ℕ) (i m : ℕ) → flags ≡ map (λ x. bit (f x)) rows → i + m ≤ length rows

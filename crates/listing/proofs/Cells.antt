@@ -8,7 +8,6 @@ use lib.ListN.{getD}
 use Rattle.image.specs.Layout.{bodyAt, levelOf, closingOf, orphanOf}
 use Rattle.sums.specs.Sums.{subtreeAnswer}
 use Rattle.sums.specs.declared.Summed.{Summed}
-use Rattle.printing.specs.declared.Columns.{Columns}
 use Rattle.listing.specs.Nodes.{columnsOf}
 
 module _ (s : List ℕ) (t : List ℤ) (rank at word size parent level root numeral : ℕ) (closing orphan : Bool) (x : Summed) (z : ℤ) where

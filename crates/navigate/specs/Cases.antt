@@ -3,7 +3,7 @@ use mathlib.Core.Path.{_≡_, refl}
 use mathlib.Core.List.{List, [], _∷_}
 use Prim.Native.Nat.{ℕ}
 use lib.IntN.{pos, negsuc}
-use lib.ListN.{length, replicate}
+use lib.ListN.{replicate}
 use Rattle.lists.specs.Stores.{front}
 use Rattle.image.specs.Layout.{bodyWords, flat, checked, contentsWords, imageWords, badContents}
 use Rattle.image.specs.Sample.{listing}

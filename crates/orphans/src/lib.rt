@@ -1,6 +1,5 @@
 // The rows outside the regular paths, by flags over the places of the rows in sibling order.
 ghost use mathlib.Core.Path.{_≡_};
-ghost use Prim.Native.Nat.{_≤_};
 ghost use lib.ListN.{length};
 ghost use Rattle.orphans.specs.Flags.{outsideAt, maskedAt, topAt, maskedParents, topFlags, lastFlag};
 use lists::get;

@@ -13,7 +13,6 @@ use Rattle.options.specs.declared.Depth.{Depth}
 use Rattle.options.specs.Options.{orphanOf}
 use Rattle.image.specs.Layout.{imageWords}
 use Rattle.paths.specs.Rows.{parentZero, numeralIn}
-use Rattle.paths.specs.Paths.{Orphan}
 use Rattle.paths.specs.Nodes.{nodes}
 use Rattle.paths.specs.Bodies.{bodies, runningTotals, leftOf}
 use Rattle.paths.specs.Refusals.{orphanChoice, refusalOf}

@@ -9,7 +9,6 @@ use Rattle.image.specs.Sample.{listing, listingTotals}
 use Rattle.navigate.specs.Navigate.{badRank, badSpan}
 use Rattle.navigate.specs.Climb.{climbFrom, stuckFrom}
 use Rattle.sums.specs.Sums.{beyond, leaves32, badTotals, subtreeAnswer, pathAnswer}
-use Rattle.sums.specs.declared.Summed.{Summed}
 
 -- over the words of an index and its totals
 pub record SumCases (s : List ℕ) (t : List ℤ) : Type 0 where

@@ -3,12 +3,12 @@
 use mathlib.Core.Path.{_≡_, refl, sym, ap, _∙_, subst}
 use mathlib.Core.Logic.{_≢_}
 use mathlib.Core.Bool.{Bool, true, false, cond}
-use Prim.Native.Nat.{ℕ, zero, suc, _+_, _-_, _*_, _≤_, _<_}
+use Prim.Native.Nat.{ℕ, suc, _+_, _-_, _*_, _≤_, _<_}
 use native.Mathlib.Nat.{add-zero}
 use native.Mathlib.Omega.{arith}
 use mathlib.Core.List.{List, [], _∷_, cons≢nil}
 use lib.ListN.{length, getD, set, length-set}
-use lib.Seq.{sets, getD-set-same, getD-set-other}
+use lib.Seq.{getD-set-same, getD-set-other}
 use Rattle.lists.specs.Stores.{sets-over, sets-back, getD-sets-below}
 use Rattle.image.specs.declared.Body.{Body}
 use Rattle.image.specs.Layout.{bodyWords, flat}
@@ -16,7 +16,7 @@ use Rattle.image.specs.ImageLaws.{length-body}
 use Rattle.paths.specs.Forest.{next}
 use Rattle.paths.specs.Emit.{orElse, emit}
 use Rattle.walk.specs.declared.Met.{Met}
-use Rattle.walk.specs.Walk.{Rows, Put, NodesWalked, SiblingsWalked, BelowWalked, closes, opened, rowOf, nodeBody, rowBody}
+use Rattle.walk.specs.Walk.{Rows, Put, NodesWalked, SiblingsWalked, BelowWalked, opened, rowOf, nodeBody, rowBody}
 use Rattle.walk.specs.WalkLaws.{below-none, below-some, siblings-past, siblings-full, siblings-over, siblings-step, marks-back, opened-level, opened-unmarked, or-else-root}
 
 -- what is below a node doesn't depend on a word before its bodies

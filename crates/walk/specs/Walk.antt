@@ -1,10 +1,10 @@
 -- What the contracts of the depth-first enumerator cite: the rows in sibling order with their links, what the links mean, and what a walk leaves. Assumes nothing: these are definitions.
 use mathlib.Core.Path.{_≡_}
 use mathlib.Core.Logic.{_↔_}
-use mathlib.Core.Bool.{Bool, true, false, not, _&&_}
-use Prim.Native.Nat.{ℕ, zero, suc, _+_, _*_, _≤_, _<_, _-_, min}
-use mathlib.Core.List.{List, [], _∷_, map}
-use lib.ListN.{length, getD, set}
+use mathlib.Core.Bool.{Bool, not, _&&_}
+use Prim.Native.Nat.{ℕ, suc, _+_, _*_, _≤_, _<_, _-_, min}
+use mathlib.Core.List.{List, _∷_, map}
+use lib.ListN.{length, getD}
 use lib.Seq.{sets}
 use lib.Dec.{ltb, eqb}
 use Rattle.lists.specs.Members.{filter, numbers}

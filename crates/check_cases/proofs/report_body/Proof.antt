@@ -1,8 +1,6 @@
 use lib.ListN.{length-set}
 use borrow.Author.Needs.{needs}
-use native.Mathlib.Omega.{arith}
-use Prim.Native.Nat.{ℕ, _≤_, _<_, _-_, _+_, _*_}
-use lib.ListN.{length}
+use Prim.Native.Nat.{_-_}
 use Rattle.check_cases.proofs.report_body.Statement.{statement}
 use Rattle.check_cases.proofs.report_body.Tie as tie
 use Rattle.check_cases.proofs.report_body.Reads as reads

@@ -1,9 +1,7 @@
 use mathlib.Core.Path.{sym, _∙_}
 use Rattle.refusals.specs.TestLaws.{early-eight, early-nine-index, early-nine-totals, early-none}
 use borrow.Author.Needs.{needs}
-use native.Mathlib.Omega.{arith}
-use Prim.Native.Nat.{ℕ, _≤_, _<_, _-_, _+_, _*_}
-use lib.ListN.{length}
+use Prim.Native.Nat.{_-_}
 use Rattle.refusals.proofs.early_refusal.Statement.{statement}
 use Rattle.refusals.proofs.early_refusal.Tie as tie
 

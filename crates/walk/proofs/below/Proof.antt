@@ -1,7 +1,7 @@
 use borrow.Author.Needs.{needs}
 use native.Mathlib.Omega.{arith}
 use mathlib.Core.Path.{_≡_, sym, _∙_}
-use Prim.Native.Nat.{_<_, _+_}
+use Prim.Native.Nat.{_<_}
 use lib.ListN.{length, getD, length-set}
 use borrow.Author.Tests.{not-true, not-false}
 use Rattle.walk.specs.WalkLaws.{below-none, below-some, opened-level, or-else-rank, whole-kept}

@@ -1,12 +1,9 @@
-use borrow.Author.Needs.{needs}
 use native.Mathlib.Omega.{arith}
 use mathlib.Core.Path.{_≡_, refl, _∙_, subst}
-use mathlib.Core.Logic.{_≢_}
 use mathlib.Core.List.{List, [], _∷_}
 use Prim.Native.Nat.{ℕ, _≤_, _<_, _-_, _+_, _*_}
-use lib.ListN.{length, getD, length-set}
-use Rattle.walk.specs.Walk.{closes}
-use Rattle.walk.specs.OpenRows.{Open, newest, Kept, Then, kept-none, kept-low, kept-put, kept-open, kept-newest, kept-all, then-start, then-leaf, then-open, then-close, then-full, then-end, first-level}
+use lib.ListN.{length, getD}
+use Rattle.walk.specs.OpenRows.{Open, newest, Kept, Then, kept-none, kept-put, kept-open, kept-newest, kept-all, then-start, then-leaf, then-open, then-close, then-full, then-end, first-level}
 use Rattle.walk.proofs.forest.Statement.{statement}
 use Rattle.walk.proofs.forest.Tie as tie
 use Rattle.walk.proofs.forest.Reads as reads

@@ -1,10 +1,9 @@
 use borrow.Author.Needs.{needs}
 use native.Mathlib.Omega.{arith}
-use Prim.Native.Nat.{ℕ, _≤_, _<_, _-_, _+_, _*_}
+use Prim.Native.Nat.{ℕ, _≤_, _-_}
 use lib.ListN.{length}
-use mathlib.Core.Path.{_≡_, refl, sym, _∙_}
+use mathlib.Core.Path.{_≡_, refl, sym}
 use mathlib.Core.List.{List}
-use borrow.Author.Tests.{not-true, not-false}
 use Rattle.walk.specs.declared.Met.{Met}
 use Rattle.walk.specs.Walk.{NodesWalked, flagged}
 use Rattle.walk.specs.WalkLaws.{whole-kept, nodes-shallow, roots-past, roots-skip, roots-full, roots-over, roots-step}
