@@ -1,4 +1,4 @@
-/* How much stack the deepest build takes: a chain of 1,024 rows, on a stack painted beforehand. Fails from 1 MB on. */
+/* How much stack the deepest build takes: a chain of 1,024 rows, on a stack painted beforehand. Fails from 256 KB on. */
 #define _POSIX_C_SOURCE 200809L
 #include "flowpewter.h"
 #include <pthread.h>
@@ -6,7 +6,7 @@
 #include <stdlib.h>
 #include <string.h>
 
-enum { NODES = 1024, STACK = 8 << 20, MOST = 1 << 20, PAINT = 0xA5 };
+enum { NODES = 1024, STACK = 8 << 20, MOST = 256 << 10, PAINT = 0xA5 };
 
 static flowpewter_board board;
 static uint32_t words[8 + 6 * NODES];
