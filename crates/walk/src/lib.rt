@@ -53,7 +53,7 @@ fn part_of(n: u32) -> usize
 }
 
 // Writes the body of the row at p, which is the node of rank n + 1, at its part of the index; `after` nodes end with its subtree.
-pub fn put_node(
+fn put_node(
     p: usize,
     level: u32,
     parent: u32,
@@ -244,7 +244,7 @@ fn forest(
 }
 
 // The nodes below the row at p, whose rank is n + 1.
-pub fn below(
+fn below(
     p: usize,
     level: u32,
     limit: u32,
