@@ -1,7 +1,7 @@
 -- What the contracts of the depth-first enumerator cite: the rows in sibling order with their links, what the links mean, and what a walk leaves. Assumes nothing: these are definitions.
 use mathlib.Core.Path.{_≡_}
 use mathlib.Core.Logic.{_↔_}
-use mathlib.Core.Bool.{Bool, not, _&&_}
+use mathlib.Core.Bool.{Bool, cond, not, _&&_}
 use Prim.Native.Nat.{ℕ, suc, _+_, _*_, _≤_, _<_, _-_, min}
 use mathlib.Core.List.{List, _∷_, map}
 use lib.ListN.{length, getD}
@@ -55,6 +55,10 @@ Clear on = (c : ℕ) → getD on c 0 ≡ 0
 -- whether the rows below the row at p are listed: its path doesn't close and may have one row more
 abbrev pub opened : (cls : List ℕ) (limit p level : ℕ) (on : List ℕ) → Bool
 opened cls limit p level on = not (closes cls p on) && ltb level limit
+
+-- the position of the first row to be listed below the row at q, or one past the last
+abbrev pub firstBelow : (child cls : List ℕ) (limit q level : ℕ) (on : List ℕ) → ℕ
+firstBelow child cls limit q level on = cond (opened cls limit q level on) (getD child q 0) (length child)
 
 -- the body of a node whose path ends in the row x
 abbrev pub nodeBody : (num : ℕ → ℕ) (orphan : Bool) → ℕ → ℕ → ℕ → ℕ → ℕ → Bool → Body
