@@ -1,5 +1,5 @@
 -- The nodes as the statement lists them, and the body that an index holds at each rank. Assumes nothing.
-use mathlib.Core.Path.{_≡_, sym, ap, subst, _∙_}
+use mathlib.Core.Path.{_≡_, refl, sym, ap, subst, _∙_}
 use mathlib.Core.Logic.{_⊎_, inl, inr, ⊎-elim, _↔_}
 use mathlib.Core.Bool.{Bool, true, false}
 use mathlib.Core.List.{List, [], _++_}
@@ -8,19 +8,22 @@ use native.Mathlib.Omega.{arith}
 use native.Mathlib.Decide.{decLt}
 use lib.Dec.{T}
 use lib.ListN.{length, getD, length-append, List·getD-append}
-use Rattle.lists.specs.Members.{getD-in, getD-append-right}
+use Rattle.lists.specs.Members.{_∈_, getD-in, getD-append-right}
 use Rattle.board.specs.declared.Row.{Row}
 use Rattle.options.specs.declared.Depth.{Depth}
 use Rattle.image.specs.declared.Body.{Body}
 use Rattle.image.specs.Layout.{bodyOf}
 use Rattle.image.specs.ImageLaws.{Holds, body-read}
-use Rattle.paths.specs.Paths.{closes, Orphan, Regular, OrphanNode}
+use Rattle.paths.specs.Rows.{num}
+use Rattle.paths.specs.Paths.{last, closes, Orphan, Regular, OrphanNode}
 use Rattle.paths.specs.Nodes.{regular, orphanNodes, nodes}
-use Rattle.paths.specs.Bodies.{nodeAt, orphanCloses, bodies}
+use Rattle.paths.specs.Bodies.{nodeAt, treeSize, parentRank, rootRank, orphanCloses, bodies}
 use Rattle.paths.specs.PathLaws.{regular-is}
-use Rattle.paths.specs.NodeLaws.{nodes-are, nodes-ordered, orphan-nodes-is, regular-or-orphan}
-use Rattle.paths.specs.BodyLaws.{bodies-length, body-row, body-numeral, body-size, body-parent, body-root, body-level, body-regular, body-orphan}
-use Rattle.paths.specs.Bounds.{level-fits}
+use Rattle.paths.specs.NodeLaws.{nodes-are, nodes-ordered, nodes-forest, orphan-nodes-is, regular-or-orphan}
+use Rattle.paths.specs.BodyLaws.{bodies-length, bodies-map, body-field, body-regular, body-orphan}
+use Rattle.paths.specs.Parents.{Allowed, nodes-closed}
+use Rattle.paths.specs.Bounds.{node-bounded, level-fits}
+use Rattle.answers.specs.Described.{Described, closed-described}
 use Rattle.guarantee.specs.Guarantee.{NodeList, Closing, BodyOf}
 
 module _ (R : List Row) (starts : Row → Bool) (depth : Depth) (o : Orphan) where
@@ -88,15 +91,27 @@ module _ (R : List Row) (starts : Row → Bool) (depth : Depth) (o : Orphan) whe
       let p : List ℕ = nodeAt (nodes R starts depth o) k in
       let b : Body = getD (bodies R starts depth o) (k - 1) d in
       record {
-        numeral = body-numeral R starts depth o k low high d;
-        row = body-row R starts depth o k low high d;
-        size = body-size R starts depth o k low high d;
-        parent = body-parent R starts depth o k low high d;
-        root = body-root R starts depth o k low high d;
-        level = body-level R starts depth o k low high d;
+        numeral = body-field R starts depth o k low high d (λ (c : Body). c .numeral) (λ p. num R (last p)) (λ p x y. refl);
+        row = body-field R starts depth o k low high d (λ (c : Body). c .row) last (λ p x y. refl);
+        size = body-field R starts depth o k low high d (λ (c : Body). c .size) (treeSize (nodes R starts depth o)) (λ p x y. refl);
+        parent = body-field R starts depth o k low high d (λ (c : Body). c .parent) (parentRank (nodes R starts depth o)) (λ p x y. refl);
+        root = body-field R starts depth o k low high d (λ (c : Body). c .root) (rootRank (nodes R starts depth o)) (λ p x y. refl);
+        level = body-field R starts depth o k low high d (λ (c : Body). c .level) length (λ p x y. refl);
         closing = closing-is p b t;
         orphan = orphan-is p b t;
       }
+
+  -- in what all forests have in common the bodies are those of the nodes
+  pub described : Allowed depth o → Described (nodes R starts depth o) (bodies R starts depth o)
+  described ok =
+      closed-described (nodes-forest R starts depth o) (nodes-closed R starts depth o ok) (bodies R starts depth o)
+      (bodies-map R starts depth o (λ (c : Body). c .size) (treeSize (nodes R starts depth o)) (λ p x y. refl))
+      (bodies-map R starts depth o (λ (c : Body). c .parent) (parentRank (nodes R starts depth o)) (λ p x y. refl))
+      (bodies-map R starts depth o (λ (c : Body). c .root) (rootRank (nodes R starts depth o)) (λ p x y. refl))
+      (bodies-map R starts depth o (λ (c : Body). c .level) length (λ p x y. refl))
+
+  pub short : length R ≤ 1024 → (p : List ℕ) → p ∈ nodes R starts depth o → length p < 65536
+  short few p m = omega (arith, node-bounded R starts depth o p (nodes-are R starts depth o p .0 m))
 
   -- and is what the words of an index say
   module _ {s : List ℕ} (h : Holds s (bodies R starts depth o)) (few : length R ≤ 1024) (k : ℕ) (low : 1 ≤ k) (high : k ≤ length (nodes R starts depth o)) where

@@ -24,26 +24,14 @@ use Rattle.image.specs.Layout.{imageWords, nodeCount, bodyOf, bodiesOf}
 use Rattle.paths.specs.Rows.{num, RowOf}
 use Rattle.paths.specs.Paths.{last, closes, Orphan, Regular, Unreached, TopOrphan, OrphanNode, Node, NodeBefore}
 use Rattle.paths.specs.Paths as paths
-use Rattle.paths.specs.Bodies.{nodeAt, treeSize, parentRank, rootRank, orphanCloses, runningTotals, descendantRanks, subtreeSum}
+use Rattle.paths.specs.Bodies.{nodeAt, treeSize, parentRank, rootRank, minutesOf, orphanCloses, runningTotals}
 use Rattle.paths.specs.Refusals.{orphanChoice, given}
-use Rattle.navigate.specs.declared.Listed.{Listed}
 use Rattle.navigate.specs.Navigate.{descendantsAnswer, descendantsOut}
-use Rattle.sums.specs.declared.Summed.{Summed}
+use Rattle.answers.specs.Answers.{First, noOther, Descendants, Sum}
 use Rattle.sums.specs.Sums.{subtreeAnswer, leaves32}
 use Rattle.request.specs.declared.Start.{Start}
 use Rattle.request.specs.declared.Built.{Built}
 use Rattle.request.specs.Build.{startRule, builtOf, indexAfter, totalsAfter}
-
--- ---- "Refusals in checking order"
-
--- k is the number of the first sentence that applies: n where S does, else that of a later sentence
-pub data First (S : Type 0) (n : ℕ) (later : ℕ → Type 0) (k : ℕ) : Type 0 where
-  applies : S → k ≡ n → First S n later k
-  passes : (S → ⊥) → later k → First S n later k
-
--- 0 where none applies
-abbrev pub noOther : ℕ → Type 0
-noOther k = k ≡ 0
 
 -- ---- the nodes over the rows R, and what their bodies say
 
@@ -120,25 +108,6 @@ pub record Refused (answer : Built) (before index : List ℕ) (unwritten totals 
       → (descendantsAnswer index rank lower upper out ≡ record { refusal = 13; len = 0 }) × (descendantsOut index rank lower upper out ≡ out)
   pub sums : (rank : ℕ) → subtreeAnswer index totals rank ≡ record { refusal = 13; sum = pos 0 }
 
--- ---- "Descendants and subtree sum get that index and those totals as the build left them, and are refused exactly when a refusal sentence applies"
-
--- "The rank is 0 or above n."
-abbrev pub NoRank : List (List ℕ) → ℕ → Type 0
-NoRank W rank = (rank ≡ 0) ⊎ (length W < rank)
-
--- "the descendants of a rank are the ranks, rising, of the node itself (distance 0) and its extensions (distance: rows more) within the limits";
--- `listed` is the lent slice afterwards; sentences 13 and 15 never apply
-pub record Descendants (W : List (List ℕ)) (rank : ℕ) (lower upper : ℤ) (out : List ℕ) (answer : Listed) (listed : List ℕ) : Type 0 where
-  pub refusal : First (NoRank W rank) 14 (First (length out < length (descendantRanks W rank lower upper)) 16 noOther) (answer .refusal)
-  pub accepted : answer .refusal ≡ 0 → (answer .len ≡ length (descendantRanks W rank lower upper)) × (listed ≡ front (descendantRanks W rank lower upper) out)
-  pub refused : answer .refusal ≢ 0 → (answer .len ≡ 0) × (listed ≡ out)
-
--- "The subtree sum is the sum of minutes of the node and all its extensions."; sentences 13 and 15 never apply
-pub record Sum (R : List Row) (W : List (List ℕ)) (rank : ℕ) (answer : Summed) : Type 0 where
-  pub refusal : First (NoRank W rank) 14 noOther (answer .refusal)
-  pub accepted : answer .refusal ≡ 0 → answer .sum ≡ subtreeSum R W rank
-  pub refused : answer .refusal ≢ 0 → answer .sum ≡ pos 0
-
 -- ---- demand 3
 
 -- a call's minutes are i32, as in every call that code can be handed: the definitions allow any integer, and totals of larger minutes could pass 2^47, sentence 15's bound
@@ -155,9 +124,10 @@ pub record Build (R : List Row) (fits : Type 0) (code : ℕ) (depth : Depth) (st
   pub refusal : BuildRefusal R code depth starts W (length before) (length unwritten) (answer .refusal)
   pub refused : answer .refusal ≢ 0 → Refused answer before index unwritten totals
   pub accepted : answer .refusal ≡ 0 → Accepted R starts depth (orphanChoice (orphanOf code)) W answer before index unwritten totals
+  -- "Descendants and subtree sum get that index and those totals as the build left them, and are refused exactly when a refusal sentence applies"
   pub descendants : answer .refusal ≡ 0 → (rank : ℕ) (lower upper : ℤ) (out : List ℕ)
       → Descendants W rank lower upper out (descendantsAnswer index rank lower upper out) (descendantsOut index rank lower upper out)
-  pub sums : answer .refusal ≡ 0 → fits → (rank : ℕ) → Sum R W rank (subtreeAnswer index totals rank)
+  pub sums : answer .refusal ≡ 0 → fits → (rank : ℕ) → Sum (minutesOf R) W rank (subtreeAnswer index totals rank)
 
 -- "Demand 3 is a single claim about the whole list of calls"; R is the plain machine's rows after them
 pub record Guarantee (cs : List Call) : Type 0 where

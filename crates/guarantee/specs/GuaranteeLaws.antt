@@ -1,16 +1,16 @@
 -- Demand 3 holds of every list of calls. Assumes nothing.
 use mathlib.Core.Path.{_≡_, refl, sym, ap, subst, _∙_}
-use mathlib.Core.Bool.{Bool, true, false, cond, not}
+use mathlib.Core.Bool.{Bool, true, false, cond, not, true≢false}
 use mathlib.Core.List.{List, map}
-use Prim.Native.Nat.{ℕ, _+_, _*_, _≤_, _<_}
+use Prim.Native.Nat.{ℕ, zero, suc, _+_, _*_, _≤_, _<_}
 use native.Mathlib.Omega.{arith}
 use lib.Dec.{eqb, ltb}
 use lib.IntN.{ℤ, pos}
-use lib.ListN.{length, replicate, length-take}
+use lib.ListN.{length, replicate, drop, length-take}
 use borrow.Author.Tests.{eq-eqb, ne-eqb, ltb-false}
 use Rattle.lists.specs.Choice.{or-no}
 use Rattle.lists.specs.Members.{_∈_, Increasing, increasing-filter, numbers, numbers-rising}
-use Rattle.lists.specs.Stores.{front}
+use Rattle.lists.specs.Stores.{front, front-is}
 use Rattle.board.specs.declared.Row.{Row}
 use Rattle.board.specs.declared.Board.{Board}
 use Rattle.board.specs.Edits.{emptyOf, rowsOf, soundOf}
@@ -19,27 +19,41 @@ use Rattle.history.specs.declared.Call.{Call}
 use Rattle.history.specs.Calls.{final}
 use Rattle.history.specs.Simulation.{simulation, final-rows, final-sound}
 use Rattle.options.specs.declared.Depth.{Depth}
+use Rattle.options.specs.declared.Depth.the-variants.{None, Limit}
 use Rattle.options.specs.Options.{orphanOf}
 use Rattle.image.specs.Layout.{imageWords}
 use Rattle.image.specs.ImageLaws.{Holds, holds-front, bodies-read}
 use Rattle.paths.specs.Forest.{memb}
 use Rattle.paths.specs.Paths.{last, Orphan}
 use Rattle.paths.specs.Nodes.{nodes}
-use Rattle.paths.specs.Bodies.{runningTotals, bodies, leftRows, leftOf}
-use Rattle.paths.specs.Refusals.{orphanChoice, refusalOf}
-use Rattle.paths.specs.NodeLaws.{nodes-are}
+use Rattle.paths.specs.Bodies.{minutesOf, runningTotals, bodies, leftRows, leftOf}
+use Rattle.paths.specs.Refusals.{orphanChoice, refusal7, refusalOf}
+use Rattle.paths.specs.NodeLaws.{nodes-are, nodes-forest}
 use Rattle.paths.specs.BodyLaws.{bodies-length, left-is}
 use Rattle.paths.specs.RefusalLaws.{accepted}
-use Rattle.paths.specs.Bounds.{level-fits}
+use Rattle.paths.specs.Parents.{Allowed}
+use Rattle.paths.specs.Bounds.{level-fits, minutes-fit}
 use Rattle.navigate.specs.Navigate.{descendantsAnswer, descendantsOut}
 use Rattle.sums.specs.Sums.{subtreeAnswer}
+use Rattle.sums.specs.HeldLaws.{HoldsTotals}
+use Rattle.answers.specs.Answers.{Descendants, Sum}
+use Rattle.answers.specs.Described.{count-here}
+use Rattle.answers.specs.AnswerLaws.{descendants-here, sum-here}
 use Rattle.request.specs.declared.Built.{Built}
 use Rattle.request.specs.Build.{startRule, buildRefusal, builtOf, indexAfter, totalsAfter}
-use Rattle.guarantee.specs.Guarantee.{BuildRefusal, Accepted, Refused, Descendants, Sum, Fits, Build, Guarantee}
-use Rattle.guarantee.specs.BodyLaws.{node-list, read-of}
+use Rattle.guarantee.specs.Guarantee.{BuildRefusal, Accepted, Refused, Fits, Build, Guarantee}
+use Rattle.guarantee.specs.BodyLaws.{node-list, read-of, described, short}
 use Rattle.guarantee.specs.SentenceLaws.{first-sentence}
 use Rattle.guarantee.specs.MinutesLaws.{RowsFit, rows-fit}
-use Rattle.guarantee.specs.NavigationLaws.{zeros-descendants, zeros-sum, count-here, descendants-here, sum-here}
+use Rattle.guarantee.specs.NavigationLaws.{zeros-descendants, zeros-sum}
+
+-- sentence 7 doesn't apply, so a depth is given only where there are no orphan nodes
+allowed-here : (depth : Depth) (orphan : ℕ) → refusal7 orphan depth ≡ false → Allowed depth (orphanChoice orphan)
+allowed-here None orphan e = tt
+allowed-here (Limit d) zero e = tt
+allowed-here (Limit d) (suc zero) e = tt
+allowed-here (Limit d) (suc (suc zero)) e = absurd (true≢false e)
+allowed-here (Limit d) (suc (suc (suc orphan))) e = absurd (true≢false (sym (ap not (ne-eqb (suc (suc (suc orphan))) 0 (λ z. omega arith))) ∙ e))
 
 -- ---- a build over rows, of a refusal q
 
@@ -62,6 +76,7 @@ module _ (R : List Row) (few : length R ≤ 1024) (code : ℕ) (depth : Depth) (
 
   -- none of the sentences applies, so the nodes are few and the totals long enough
   pub record Room : Type 0 where
+    pub allowed : Allowed depth o
     pub small : length W ≤ 65535
     pub long : length W + 1 ≤ length totals
 
@@ -69,9 +84,10 @@ module _ (R : List Row) (few : length R ≤ 1024) (code : ℕ) (depth : Depth) (
   room e =
       let l = bodies-length R starts depth o in
       let n = length (bodies R starts depth o) in
-      let a = or-no (ltb 65535 n) _ (accepted R code depth starts (length index) (length totals) e .sentence9) in
+      let t = accepted R code depth starts (length index) (length totals) e in
+      let a = or-no (ltb 65535 n) _ (t .sentence9) in
       let b = or-no (ltb (length index) (8 + 6 * n)) _ (a .1) in
-      record { small = omega (arith, ltb-false 65535 n (a .0)); long = omega (arith, ltb-false (length totals) (n + 1) (b .1)) }
+      record { allowed = allowed-here depth (orphanOf code) (t .sentence7); small = omega (arith, ltb-false 65535 n (a .0)); long = omega (arith, ltb-false (length totals) (n + 1) (b .1)) }
 
   zeroed : (q : ℕ) → Refused (answerOf q false) index (indexOf false) totals (totalsOf false)
   zeroed q = record {
@@ -94,10 +110,14 @@ module _ (R : List Row) (few : length R ≤ 1024) (code : ℕ) (depth : Depth) (
   held : Holds (indexOf true) (bodies R starts depth o)
   held = holds-front (bodies R starts depth o) index
 
+  running : HoldsTotals (minutesOf R) W (totalsOf true)
+  unfolding runningTotals
+  running = record { rest = drop (length (runningTotals R W)) totals; is = front-is (runningTotals R W) totals }
+
   written : (q : ℕ) → Room → Accepted R starts depth o W (answerOf q true) index (indexOf true) totals (totalsOf true)
   written q r = record {
     n = refl;
-    count = count-here R starts depth o held few (r .small);
+    count = count-here (nodes-forest R starts depth o) (described R starts depth o (r .allowed)) (short R starts depth o few) held;
     bodies = read-of R starts depth o held few;
     image = ap (λ l. front (imageWords l) index) (sym (bodies-read held (λ b m. omega (arith, level-fits R starts depth o few b m))));
     running = refl;
@@ -120,10 +140,10 @@ module _ (R : List Row) (few : length R ≤ 1024) (code : ℕ) (depth : Depth) (
     accepted = λ z. subst (λ t. Accepted R starts depth o W (answerOf q t) index (indexOf t) totals (totalsOf t)) (sym (eq-eqb q 0 z)) (written q (room (sym e ∙ z)));
     descendants = λ z. let r = room (sym e ∙ z) in
         subst (λ t. (rank : ℕ) (lower upper : ℤ) (out : List ℕ) → Descendants W rank lower upper out (descendantsAnswer (indexOf t) rank lower upper out) (descendantsOut (indexOf t) rank lower upper out)) (sym (eq-eqb q 0 z))
-        (descendants-here R starts depth o held few (r .small));
+        (λ rank. descendants-here (nodes-forest R starts depth o) (described R starts depth o (r .allowed)) (short R starts depth o few) (r .small) held rank);
     sums = λ z g. let r = room (sym e ∙ z) in
-        subst (λ t. (rank : ℕ) → Sum R W rank (subtreeAnswer (indexOf t) (totalsOf t) rank)) (sym (eq-eqb q 0 z))
-        (sum-here R starts depth o held few (r .small) totals (r .long) (f g));
+        subst (λ t. (rank : ℕ) → Sum (minutesOf R) W rank (subtreeAnswer (indexOf t) (totalsOf t) rank)) (sym (eq-eqb q 0 z))
+        (λ rank. sum-here (nodes-forest R starts depth o) (described R starts depth o (r .allowed)) (short R starts depth o few) (r .small) held rank (minutesOf R) (λ p m. minutes-fit R (f g) (last p)) running);
   }
 
 -- ---- a build on a sound board

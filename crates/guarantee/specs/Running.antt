@@ -19,7 +19,9 @@ use Rattle.sums.specs.Sums.{subtreeAnswer}
 use Rattle.request.specs.declared.Start.{Start}
 use Rattle.request.specs.Build.{startRule, builtOf, indexAfter, totalsAfter}
 use Rattle.guarantee.specs.declared.Whole.{Whole}
-use Rattle.guarantee.specs.Guarantee.{Fits, Build, Descendants, Sum}
+use Rattle.answers.specs.Answers.{Descendants, Sum}
+use Rattle.paths.specs.Bodies.{minutesOf}
+use Rattle.guarantee.specs.Guarantee.{Fits, Build}
 
 -- the answers of a build on the board that a replay left, and of the navigation on what that build left
 abbrev pub wholeOf : Replayed → ℕ → Depth → (Row → Bool) → List ℕ → List ℤ → ℕ → ℤ → ℤ → List ℕ → Whole
@@ -58,5 +60,5 @@ pub record Demand3 (cs : List Call) (refusals : List ℕ) (code : ℕ) (depth : 
   pub build : Build (after start cs .rows) ((c : Call) → c ∈ cs → Fits c) code depth (startRule rule list) (answer .built) index index' totals totals'
   pub listed : answer .built .refusal ≡ 0 → Descendants (build .W) rank lower upper out (answer .listed) out'
   pub unlisted : answer .built .refusal ≢ 0 → (answer .listed ≡ record { refusal = 13; len = 0 }) × (out' ≡ out)
-  pub summed : answer .built .refusal ≡ 0 → Sum (after start cs .rows) (build .W) rank (answer .summed)
+  pub summed : answer .built .refusal ≡ 0 → Sum (minutesOf (after start cs .rows)) (build .W) rank (answer .summed)
   pub unsummed : answer .built .refusal ≢ 0 → answer .summed ≡ record { refusal = 13; sum = pos 0 }

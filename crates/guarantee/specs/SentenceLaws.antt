@@ -1,12 +1,12 @@
 -- The tests of refusals 6 to 12 say what the sentences say, and the first that applies is the build's refusal. Assumes nothing.
 use mathlib.Core.Path.{_≡_, refl, sym, ap, subst, _∙_}
 use mathlib.Core.Logic.{_⊎_, inl, inr, ⊎-elim, _≢_, _↔_}
-use mathlib.Core.Bool.{Bool, true, false, cond, not, _&&_, _||_}
+use mathlib.Core.Bool.{Bool, true, false, not, _&&_, _||_}
 use mathlib.Core.List.{List, []}
 use Prim.Native.Nat.{ℕ, suc, _+_, _*_, _-_, _<_}
 use native.Mathlib.Omega.{arith}
 use native.Mathlib.Decide.{decLt}
-use lib.Dec.{T, T-not, not-T, eqb, eqb→eq, ltb, ltb→lt, lt→ltb}
+use lib.Dec.{T, T-not, not-T, eqb, eqb→eq, ltb}
 use lib.ListN.{length, getD}
 use Rattle.lists.specs.Members.{_∈_, or-out, or-left, or-right, and-out, and-in, is-true, is-false, any, any-out, any-in, getD-in, place-of, increasing-at}
 use Rattle.board.specs.declared.Row.{Row}
@@ -23,13 +23,9 @@ use Rattle.paths.specs.ForestLaws.{eq→eqb}
 use Rattle.paths.specs.NodeLaws.{nodes-once}
 use Rattle.paths.specs.BodyLaws.{bodies-length}
 use Rattle.paths.specs.RefusalLaws.{some-top, no-start, some-unreached, shared-is}
-use Rattle.guarantee.specs.Guarantee.{First, applies, passes, Closing, BodyOf, Shares, BuildRefusal}
+use Rattle.answers.specs.AnswerLaws.{first-step, less}
+use Rattle.guarantee.specs.Guarantee.{Closing, BodyOf, Shares, BuildRefusal}
 use Rattle.guarantee.specs.BodyLaws.{body-of}
-
--- a test that says what S says, then later sentences
-pub first-step : (t : Bool) {S : Type 0} → T t ↔ S → (n y : ℕ) {later : ℕ → Type 0} → later y → First S n later (cond t n y)
-first-step true f n y l = applies (f .0 tt) refl
-first-step false f n y l = passes (λ s. f .1 s) l
 
 pub both : (a b : Bool) {A B : Type 0} → T a ↔ A → T b ↔ B → T (a && b) ↔ (A × B)
 both a b f g = ((λ t. let r = and-out a b t in (f .0 (r .0), g .0 (r .1))), (λ x. and-in a b (f .1 (x .0)) (g .1 (x .1))))
@@ -39,9 +35,6 @@ one-of a b f g = ((λ t. ⊎-elim (λ x. inl (f .0 x)) (λ x. inr (g .0 x)) (or-
 
 pub equal : (a b : ℕ) → T (eqb a b) ↔ (a ≡ b)
 equal a b = (eqb→eq a b, eq→eqb a b)
-
-pub less : (a b : ℕ) → T (ltb a b) ↔ (a < b)
-less a b = (ltb→lt a b, lt→ltb a b)
 
 unequal : (a b : ℕ) → T (not (eqb a b)) ↔ (a ≢ b)
 unequal a b = ((λ t e. T-not (eqb a b) t (eq→eqb a b e)), (λ n. not-T (eqb a b) (λ t. n (eqb→eq a b t))))
