@@ -27,7 +27,7 @@ use Rattle.paths.specs.Bodies.{body, orphanCloses, bodies, leftOf}
 use Rattle.paths.specs.Refusals.{orphanChoice, isEmpty, refusal6, refusal7, refusal8, refusal9, refusal10, refusal11, refusal12, refusalOf}
 use Rattle.paths.specs.SiblingLaws.{sorted-is}
 use Rattle.paths.specs.BodyLaws.{bodies-length, bodies-rows, totals-bodies, left-bodies}
-use Rattle.paths.specs.Bounds.{bodies-bounded}
+use Rattle.paths.specs.BoundLaws.{bodies-bounded}
 use Rattle.request.specs.declared.Built.{Built}
 use Rattle.request.specs.Build.{refusedBy}
 use Rattle.walk.specs.Walk.{Walked, Clear}

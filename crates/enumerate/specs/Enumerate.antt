@@ -12,9 +12,8 @@ use Rattle.board.specs.declared.Row.{Row}
 use Rattle.image.specs.declared.Body.{Body}
 use Rattle.paths.specs.Forest.{memb}
 use Rattle.paths.specs.Rows.{row as rowOf, num, par, RowOf}
-use Rattle.paths.specs.Emit.{emit}
+use Rattle.paths.specs.EmitLayer.{mkBody, emit}
 use Rattle.paths.specs.Nodes.{sorted, noParent}
-use Rattle.paths.specs.Bodies.{mkBody}
 use Rattle.links.specs.Links.{Ordered, firsts, nexts, keysOf}
 use Rattle.passes.specs.Passes.{rowsTo}
 use Rattle.orphans.specs.Flags.{maskedParents, topFlags}

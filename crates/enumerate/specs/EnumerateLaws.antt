@@ -26,13 +26,13 @@ use Rattle.paths.specs.Forest.{next}
 use Rattle.paths.specs.Rows.{row as boardRow, num, par}
 use Rattle.paths.specs.Paths.{last, ignore, error, adopt, root}
 use Rattle.paths.specs.Nodes.{sorted, starts, regular, orphanRows, tops, nodes}
-use Rattle.paths.specs.Emit.{emit}
-use Rattle.paths.specs.Bodies.{mkBody, bodies}
+use Rattle.paths.specs.EmitLayer.{mkBody, emit}
+use Rattle.paths.specs.Bodies.{bodies}
 use Rattle.paths.specs.EmitLaws.{emit-nil}
-use Rattle.paths.specs.BodyWalks.{bodies-ignore, bodies-error, bodies-root}
-use Rattle.paths.specs.AdoptWalks.{bodies-adopt, bodies-adopt-none}
+use Rattle.paths.specs.BodyWalkLaws.{bodies-ignore, bodies-error, bodies-root}
+use Rattle.paths.specs.AdoptWalkLaws.{bodies-adopt, bodies-adopt-none}
 use Rattle.paths.specs.BodyLaws.{regular-rows}
-use Rattle.paths.specs.Bounds.{bodies-bounded}
+use Rattle.paths.specs.BoundLaws.{bodies-bounded}
 use Rattle.paths.specs.Refusals.{orphanChoice}
 use Rattle.links.specs.Children.{child-long, parent-long}
 use Rattle.links.specs.Starts.{flagged-rows}

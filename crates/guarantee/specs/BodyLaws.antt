@@ -21,8 +21,8 @@ use Rattle.paths.specs.Bodies.{nodeAt, treeSize, parentRank, rootRank, orphanCl
 use Rattle.paths.specs.PathLaws.{regular-is}
 use Rattle.paths.specs.NodeLaws.{nodes-are, nodes-ordered, nodes-forest, orphan-nodes-is, regular-or-orphan}
 use Rattle.paths.specs.BodyLaws.{bodies-length, bodies-map, body-field, body-regular, body-orphan}
-use Rattle.paths.specs.Parents.{Allowed, nodes-closed}
-use Rattle.paths.specs.Bounds.{node-bounded, level-fits}
+use Rattle.paths.specs.ParentLaws.{Allowed, nodes-closed}
+use Rattle.paths.specs.BoundLaws.{node-bounded, level-fits}
 use Rattle.answers.specs.Described.{Described, closed-described}
 use Rattle.guarantee.specs.Guarantee.{NodeList, Closing, BodyOf}
 

@@ -20,7 +20,7 @@ use Rattle.paths.specs.Paths.{Orphan}
 use Rattle.paths.specs.Bodies.{bodies}
 use Rattle.paths.specs.Refusals.{orphanChoice, refusalOf}
 use Rattle.paths.specs.NodeLaws.{nodes-forest}
-use Rattle.paths.specs.Parents.{nodes-closed}
+use Rattle.paths.specs.ParentLaws.{nodes-closed}
 use Rattle.index_check.specs.IndexCheck.{accepts}
 use Rattle.answers.specs.Described.{closed-accepted}
 use Rattle.request.specs.Build.{buildRefusal, builtOf, indexAfter}

@@ -31,8 +31,8 @@ use Rattle.paths.specs.Refusals.{orphanChoice, refusal7, refusalOf}
 use Rattle.paths.specs.NodeLaws.{nodes-are, nodes-forest}
 use Rattle.paths.specs.BodyLaws.{bodies-length, left-is}
 use Rattle.paths.specs.RefusalLaws.{accepted}
-use Rattle.paths.specs.Parents.{Allowed}
-use Rattle.paths.specs.Bounds.{level-fits, minutes-fit}
+use Rattle.paths.specs.ParentLaws.{Allowed}
+use Rattle.paths.specs.BoundLaws.{level-fits, minutes-fit}
 use Rattle.navigate.specs.Navigate.{descendantsAnswer, descendantsOut}
 use Rattle.sums.specs.Sums.{subtreeAnswer}
 use Rattle.sums.specs.HeldLaws.{HoldsTotals}

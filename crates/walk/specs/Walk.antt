@@ -12,7 +12,7 @@ use Rattle.image.specs.declared.Body.{Body}
 use Rattle.image.specs.Layout.{bodyWords, flat, checked}
 use Rattle.links.specs.Links.{Linked}
 use Rattle.paths.specs.Forest.{memb, children, next}
-use Rattle.paths.specs.Emit.{orElse, emit}
+use Rattle.paths.specs.EmitLayer.{orElse, emit}
 use Rattle.walk.specs.declared.Met.{Met}
 
 -- the rows by position, positions counted from 0 in sibling order: the positions of the first child and of the next sibling (or any

@@ -3,7 +3,7 @@ ghost use mathlib.Core.Path.{_≡_};
 ghost use mathlib.Core.Logic.{_≢_};
 ghost use Prim.Native.Nat.{_+_, _*_, _-_, _≤_, _<_};
 ghost use lib.ListN.{length, getD, set};
-ghost use Rattle.paths.specs.Emit.{orElse};
+ghost use Rattle.paths.specs.EmitLayer.{orElse};
 ghost use Rattle.walk.specs.Walk.{Whole, Put, NodesWalked, SiblingsWalked, BelowWalked, rowBody, closes, opened, firstBelow, flagged};
 
 // How many nodes were met, and the check word of their bodies.
