@@ -1,6 +1,6 @@
 /* Flowpewter: parts lists with undo, their forest of paths as an index, navigation and sums.
  *
- * Link with target/staticlib/libexports.a, which `rt staticlib exports` makes. Nothing is allocated and no state is
+ * Link with target/staticlib/libflowpewter.a, which `rt staticlib flowpewter` makes. Nothing is allocated and no state is
  * kept. A slice is a pointer and a number of elements; the pointer must not be null (with length 0 it may point
  * anywhere), and no slice that a call writes may overlap another argument. Every call takes every argument: what can't
  * be done is refused by a number, and nothing is read or written outside the slices.

@@ -4,7 +4,7 @@
 set -eu
 cd "$(dirname "$0")/.."
 export CARGO_TARGET_DIR="$PWD/target/cargo"
-rt staticlib exports >/dev/null
+rt staticlib flowpewter >/dev/null
 
 # as COMMAND: runs what root mustn't
 as() {

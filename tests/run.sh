@@ -5,8 +5,8 @@ set -eu
 cd "$(dirname "$0")/.."
 export CARGO_TARGET_DIR="$PWD/target/cargo"
 out=target/tests
-library=target/staticlib/libexports.a
-rt staticlib exports
+library=target/staticlib/libflowpewter.a
+rt staticlib flowpewter
 mkdir -p "$out"
 
 cargo test --offline --release --manifest-path rust/Cargo.toml

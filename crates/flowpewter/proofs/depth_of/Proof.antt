@@ -6,10 +6,10 @@ use mir.Syntax.{w32}
 use mir.Facts.{toZ-ofZ}
 use borrow.Author.Needs.{needs}
 use Rattle.options.specs.declared.Depth.the-variants.{None, Limit}
-use Rattle.exports.proofs.depth_of.Statement.{statement}
-use Rattle.exports.proofs.depth_of.Tie as tie
-use Rattle.exports.proofs.depth_of.Reads as reads
-use Rattle.exports.proofs.depth_of.Lts as lts
+use Rattle.flowpewter.proofs.depth_of.Statement.{statement}
+use Rattle.flowpewter.proofs.depth_of.Tie as tie
+use Rattle.flowpewter.proofs.depth_of.Reads as reads
+use Rattle.flowpewter.proofs.depth_of.Lts as lts
 
 returns : tie.Need-returns
 returns c =

@@ -1,7 +1,7 @@
 -- `flowpewter_build_default` meets its contract, is safe and ends. Assumes nothing.
 use borrow.Author.Needs.{needs}
-use Rattle.exports.proofs.flowpewter_build_default.Statement.{statement}
-use Rattle.exports.proofs.flowpewter_build_default.Tie as tie
+use Rattle.flowpewter.proofs.flowpewter_build_default.Statement.{statement}
+use Rattle.flowpewter.proofs.flowpewter_build_default.Tie as tie
 
 build-default-requires : tie.Need-build-default-requires
 build-default-requires c κs = search needs

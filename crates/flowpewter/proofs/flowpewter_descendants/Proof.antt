@@ -7,10 +7,10 @@ use mir.Facts.{toZ-ofZ}
 use denote.Ref.{now}
 use borrow.Author.Needs.{needs}
 use Rattle.navigate.specs.Navigate.{descendantsAnswer, descendantsOut}
-use Rattle.exports.proofs.flowpewter_descendants.Statement.{statement}
-use Rattle.exports.proofs.flowpewter_descendants.Tie as tie
-use Rattle.exports.proofs.flowpewter_descendants.Reads as reads
-use Rattle.exports.proofs.flowpewter_descendants.Lts as lts
+use Rattle.flowpewter.proofs.flowpewter_descendants.Statement.{statement}
+use Rattle.flowpewter.proofs.flowpewter_descendants.Tie as tie
+use Rattle.flowpewter.proofs.flowpewter_descendants.Reads as reads
+use Rattle.flowpewter.proofs.flowpewter_descendants.Lts as lts
 use Rattle.navigate.proofs.descendants.Reads as descendants-reads
 
 descendants-requires : tie.Need-descendants-requires

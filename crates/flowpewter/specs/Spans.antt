@@ -7,7 +7,7 @@ use lib.ListN.{take, drop}
 use lib.Dec.{eqb}
 use Rattle.image.specs.Layout.{bodyAt, sizeAt}
 use Rattle.navigate.specs.Navigate.{spanRefusal, spanPart}
-use Rattle.exports.specs.declared.Span.{Span}
+use Rattle.flowpewter.specs.declared.Span.{Span}
 
 -- "Span: a returned part of the index slice, the bodies of ranks r to r + size − 1"; "a refused navigation .. returns .. a span of no words"
 unfoldable pub spanOf : List ℕ → ℕ → Span

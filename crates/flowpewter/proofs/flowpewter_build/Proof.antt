@@ -9,9 +9,9 @@ use borrow.Author.Needs.{needs}
 use Rattle.options.specs.declared.Depth.{Depth}
 use Rattle.request.specs.declared.Start.{Start}
 use Rattle.request.specs.Build.{startRule, builtOf, indexAfter, totalsAfter}
-use Rattle.exports.specs.Requests.{depthOf}
-use Rattle.exports.proofs.flowpewter_build.Statement.{statement}
-use Rattle.exports.proofs.flowpewter_build.Tie as tie
+use Rattle.flowpewter.specs.Requests.{depthOf}
+use Rattle.flowpewter.proofs.flowpewter_build.Statement.{statement}
+use Rattle.flowpewter.proofs.flowpewter_build.Tie as tie
 
 depth-of-requires : tie.Need-depth-of-requires
 depth-of-requires c κs = search needs

@@ -7,11 +7,11 @@ use borrow.Author.Needs.{needs}
 use borrow.Author.Tests.{eq-eqb, ne-eqb}
 use Rattle.navigate.specs.Navigate.{spanRefusal}
 use Rattle.navigate.specs.NavigateLaws.{Span, span}
-use Rattle.exports.specs.Spans.{spanOf}
-use Rattle.exports.proofs.flowpewter_span.Statement.{statement}
-use Rattle.exports.proofs.flowpewter_span.Tie as tie
-use Rattle.exports.proofs.flowpewter_span.Reads as reads
-use Rattle.exports.proofs.flowpewter_span.Lts as lts
+use Rattle.flowpewter.specs.Spans.{spanOf}
+use Rattle.flowpewter.proofs.flowpewter_span.Statement.{statement}
+use Rattle.flowpewter.proofs.flowpewter_span.Tie as tie
+use Rattle.flowpewter.proofs.flowpewter_span.Reads as reads
+use Rattle.flowpewter.proofs.flowpewter_span.Lts as lts
 use Rattle.lists.proofs.get.Reads as get-reads
 use Rattle.navigate.proofs.span_refusal.Reads as span-refusal-reads
 

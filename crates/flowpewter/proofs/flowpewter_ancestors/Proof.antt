@@ -7,10 +7,10 @@ use mir.Facts.{toZ-ofZ}
 use denote.Ref.{now}
 use borrow.Author.Needs.{needs}
 use Rattle.navigate.specs.Climb.{ancestorsAnswer, ancestorsOut}
-use Rattle.exports.proofs.flowpewter_ancestors.Statement.{statement}
-use Rattle.exports.proofs.flowpewter_ancestors.Tie as tie
-use Rattle.exports.proofs.flowpewter_ancestors.Reads as reads
-use Rattle.exports.proofs.flowpewter_ancestors.Lts as lts
+use Rattle.flowpewter.proofs.flowpewter_ancestors.Statement.{statement}
+use Rattle.flowpewter.proofs.flowpewter_ancestors.Tie as tie
+use Rattle.flowpewter.proofs.flowpewter_ancestors.Reads as reads
+use Rattle.flowpewter.proofs.flowpewter_ancestors.Lts as lts
 use Rattle.navigate.proofs.ancestors.Reads as ancestors-reads
 
 ancestors-requires : tie.Need-ancestors-requires

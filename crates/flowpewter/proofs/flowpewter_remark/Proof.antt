@@ -5,10 +5,10 @@ use mir.Syntax.{w32}
 use mir.Facts.{toZ-ofZ}
 use borrow.Author.Needs.{needs}
 use Rattle.board.specs.Edits.{remarkOf}
-use Rattle.exports.proofs.flowpewter_remark.Statement.{statement}
-use Rattle.exports.proofs.flowpewter_remark.Tie as tie
-use Rattle.exports.proofs.flowpewter_remark.Reads as reads
-use Rattle.exports.proofs.flowpewter_remark.Lts as lts
+use Rattle.flowpewter.proofs.flowpewter_remark.Statement.{statement}
+use Rattle.flowpewter.proofs.flowpewter_remark.Tie as tie
+use Rattle.flowpewter.proofs.flowpewter_remark.Reads as reads
+use Rattle.flowpewter.proofs.flowpewter_remark.Lts as lts
 use Rattle.board.proofs.Board.remark.Reads as remark-reads
 
 remark-requires : tie.Need-remark-requires
