@@ -2,7 +2,7 @@
 
 use crate::edits::board;
 use crate::tally::Tally;
-use crate::{fast, navigation};
+use crate::{baseline, navigation};
 use flowpewter::sys;
 use generate::builds::{large_case, start_of};
 use generate::{
@@ -10,7 +10,7 @@ use generate::{
 };
 use reference::{build_board, Built};
 
-/// One build on both sides, and by the fast Rust that the library is measured against. Answers the case with its
+/// One build on both sides, and by the baseline that the library is measured against. Answers the case with its
 /// slices as they are afterwards.
 pub fn compare(
     reference: &reference::Board,
@@ -30,7 +30,7 @@ pub fn compare(
     same(case, expected, &after, (built.refusal, built.nodes, built.left), &index, &totals);
 
     let (mut index, mut totals) = (case.index.clone(), case.totals.clone());
-    let built = fast::build(&library, code, depth, list, &mut index, &mut totals);
+    let built = baseline::build(&library, code, depth, list, &mut index, &mut totals);
     same(case, expected, &after, (built.refusal, built.nodes, built.left), &index, &totals);
 
     if code == 0 && depth.is_none() && list.is_none() {

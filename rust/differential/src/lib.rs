@@ -5,10 +5,10 @@
 //! many as it is told.
 #![forbid(unsafe_code)]
 
+pub mod baseline;
 pub mod builds;
 pub mod databases;
 pub mod edits;
-pub mod fast;
 pub mod navigation;
 pub mod tally;
 

@@ -1,7 +1,7 @@
 //! Builds against the reference.
 
-use evidence::builds::{self, CODES};
-use evidence::Tally;
+use differential::builds::{self, CODES};
+use differential::Tally;
 use generate::Random;
 
 #[test]

@@ -1,6 +1,6 @@
 //! Edits, soundness and replay against the reference.
 
-use evidence::{edits, Tally};
+use differential::{edits, Tally};
 use generate::{Random, HISTORIES};
 
 #[test]

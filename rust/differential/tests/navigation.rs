@@ -1,6 +1,6 @@
 //! Navigation and the index check against the reference.
 
-use evidence::{navigation, Tally};
+use differential::{navigation, Tally};
 use generate::Random;
 
 #[test]

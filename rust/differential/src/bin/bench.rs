@@ -1,9 +1,9 @@
-//! Times of the library and of the same jobs in plain Rust (`evidence::fast`), taken in turn in one run, best of several.
+//! Times of the library and of the same jobs in plain Rust (`differential::baseline`), taken in turn in one run, best of several.
 //! Prints one line for each job, then the same node lists by recursive queries of the databases that are installed.
 #![forbid(unsafe_code)]
 
-use evidence::databases::DATABASES;
-use evidence::fast;
+use differential::baseline;
+use differential::databases::DATABASES;
 use flowpewter::{index_len, sys, totals_len, Board, Entry, Row, MAX_NODES};
 use std::hint::black_box;
 use std::time::Instant;
@@ -83,7 +83,7 @@ fn builds(job: &str, rows: &[Row], rounds: u32) -> f64 {
     let mut totals = vec![0; totals_len(MAX_NODES)];
     let (mut other, mut others) = (index.clone(), totals.clone());
     let built = sys::build(&board, 0, None, None, &mut index, &mut totals);
-    let expected = fast::build(&board, 0, None, None, &mut other, &mut others);
+    let expected = baseline::build(&board, 0, None, None, &mut other, &mut others);
     assert_eq!(built, expected);
     assert!(index == other && totals == others);
     let times = race(
@@ -92,7 +92,7 @@ fn builds(job: &str, rows: &[Row], rounds: u32) -> f64 {
             black_box(sys::build(black_box(&board), 0, None, None, &mut index, &mut totals));
         },
         || {
-            black_box(fast::build(black_box(&board), 0, None, None, &mut other, &mut others));
+            black_box(baseline::build(black_box(&board), 0, None, None, &mut other, &mut others));
         },
     );
     print(job, &format!("{} rows, {} nodes", rows.len(), built.nodes), times);
@@ -103,14 +103,14 @@ fn edits(journal: &str, kept: usize) {
     let board = Board { kept, ..board(&chain()[..1_000]) };
     let work = format!("1,000 rows, {journal}");
     let row = Row::new(3, 5, 7, 9);
-    assert_eq!(sys::add(&board, row), fast::add(board, row));
+    assert_eq!(sys::add(&board, row), baseline::add(board, row));
     let times = race(
         1_000,
         || {
             black_box(sys::add(black_box(&board), row));
         },
         || {
-            black_box(fast::add(*black_box(&board), row));
+            black_box(baseline::add(*black_box(&board), row));
         },
     );
     print("add, both by value", &work, times);
@@ -122,7 +122,7 @@ fn edits(journal: &str, kept: usize) {
         },
         || {
             (own.count, own.kept) = (1_000, kept);
-            black_box(fast::add_in_place(black_box(&mut own), row));
+            black_box(baseline::add_in_place(black_box(&mut own), row));
         },
     );
     print("add, Rust in place", &work, times);
@@ -132,10 +132,10 @@ fn navigation() {
     let board = board(&wide());
     let mut index = vec![0; index_len(MAX_NODES)];
     let mut totals = vec![0; totals_len(MAX_NODES)];
-    let n = fast::build(&board, 0, None, None, &mut index, &mut totals).nodes;
+    let n = baseline::build(&board, 0, None, None, &mut index, &mut totals).nodes;
     let (mut list, mut other) = (vec![0; n as usize], vec![0; n as usize]);
     let found = sys::descendants(&index, 1, 3, 12, &mut list);
-    assert_eq!(found, fast::descendants(&index, 1, 3, 12, &mut other));
+    assert_eq!(found, baseline::descendants(&index, 1, 3, 12, &mut other));
     assert_eq!(list, other);
     let times = race(
         10,
@@ -143,19 +143,19 @@ fn navigation() {
             black_box(sys::descendants(black_box(&index), 1, 3, 12, &mut list));
         },
         || {
-            black_box(fast::descendants(black_box(&index), 1, 3, 12, &mut other));
+            black_box(baseline::descendants(black_box(&index), 1, 3, 12, &mut other));
         },
     );
     print("descendants, distances 3 to 12", &format!("{} of {n} ranks", found.len), times);
 
-    assert!(sys::index_check(&index) && fast::index_check(&index));
+    assert!(sys::index_check(&index) && baseline::index_check(&index));
     let times = race(
         10,
         || {
             black_box(sys::index_check(black_box(&index)));
         },
         || {
-            black_box(fast::index_check(black_box(&index)));
+            black_box(baseline::index_check(black_box(&index)));
         },
     );
     print("index check", &format!("{n} nodes"), times);

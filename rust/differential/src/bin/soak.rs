@@ -2,7 +2,7 @@
 //! Prints its seed first and the counts at the end; fails at the first difference.
 #![forbid(unsafe_code)]
 
-use evidence::{builds, edits, navigation, Tally};
+use differential::{builds, edits, navigation, Tally};
 use generate::{Random, HISTORIES};
 use std::time::{SystemTime, UNIX_EPOCH};
 
