@@ -1,39 +1,26 @@
 /* Flowpewter: parts lists with undo, their forest of paths as an index, navigation and sums.
  *
- * Link with target/staticlib/libflowpewter.a, which `rt staticlib flowpewter` makes. Nothing is allocated and no state is
- * kept. A slice is a pointer and a number of elements; the pointer must not be null (with length 0 it may point
- * anywhere), and no slice that a call writes may overlap another argument. Every call takes every argument: what can't
- * be done is refused by a number, and nothing is read or written outside the slices.
+ * Link with target/staticlib/libflowpewter.a, which `rt staticlib flowpewter` makes. It is compiled for x86-64 Linux
+ * (System V calls, any x86-64 processor, position-independent) and for nothing else; of the C library it takes memcpy,
+ * memmove and memset alone.
  *
- * A refusal of 0 means none. Of the conditions that hold, the smallest number is given.
+ * Nothing is allocated, no state is kept, and any number of threads may call at once. Every call takes every argument:
+ * what can't be done is refused by a number, and nothing is read or written outside the slices. What follows is all
+ * that a caller must see to.
  *
- *  1  The board isn't sound.
- *  2  An added row has numeral 0.
- *  3  A row is added to 1,024 rows.
- *  4  A withdrawn or remarked row number is 0 or above the count.
- *  5  Undo finds no kept step.
- *  6  The option code is above 23.
- *  7  A depth is given and orphan isn't 0.
- *  8  Adopt meets a top orphan and there is no start row.
- *  9  The nodes number over 65,535, or the index has fewer than 8 + 6n words, or the totals fewer than n + 1.
- * 10  Cycle is 1 and a node closes.
- * 11  Multi is 2 and two nodes share a numeral, or multi is 1 and a node of tree size above 1 shares its numeral.
- * 12  Orphan is 1 and some row ends no regular path.
- * 13  In navigation the index has under 8 words, word 1 isn't 8, word 2 isn't 6, n is over 65,535 or more than fits, or
- *     a sum gets under n + 1 totals.
- * 14  The rank is 0 or above n.
- * 15  A span, descendants or subtree sum is of a node with size 0 or an end above n, a climb meets a parent rank not
- *     below its own, a total used is beyond 2^47 either side, or own minutes used in a path sum leave int32_t.
- * 16  The list found is longer than its slice.
+ * Slices. A slice is a pointer and a number of elements. With length 0 the pointer may be anything, NULL too, and is
+ * not used; that also holds for a list that isn't read. With any other length it must point to that many elements,
+ * even if the call is refused or ignores them. No slice that a call writes may overlap another slice of the call.
  *
- * Of flowpewter_replay alone:
- * 101  The words are no whole number of calls.
- * 102  A call is of no known kind.
- * 103  There are fewer refusal words than calls.
+ * Stack. Boards are passed and returned by value, and working space is on the stack. No call takes 256 KB of it.
+ * Measured by tests/stack.c: a build 129 KB, a replay 123 KB, an edit 102 KB, flowpewter_empty 61 KB, flowpewter_sound
+ * 53 KB, any other call next to nothing; a board in a variable of your own is 25 KB more. The usual 8 MB of a Linux
+ * thread is plenty. A thread with a small stack is not: musl gives 128 KiB where nothing is said, and a build would run
+ * over its end. There, ask for 512 KB by pthread_attr_setstacksize.
  *
- * A refused edit returns the board it got. A refused build zeroes both slices and its two counts. A refused navigation
- * writes nothing and returns counts and sums of 0, and a span of no words. A refused replay writes nothing and returns
- * no calls and the empty board.
+ * Comparing boards. Two boards are the same when their counts, their first `count` rows, their kept numbers and their
+ * first `kept` journal entries are. Don't compare them by memcmp: places beyond those hold what was left there,
+ * structs have padding, and of the entry of an add only the kind counts.
  */
 #ifndef FLOWPEWTER_H
 #define FLOWPEWTER_H
@@ -46,13 +33,47 @@
 extern "C" {
 #endif
 
+/* Why a call was refused; 0 is no refusal. Of the reasons that hold, the one with the smallest number is given.
+ *
+ * A refused edit returns the board it got. A refused build zeroes both slices and its two counts. A refused navigation
+ * or sum writes nothing and returns counts and sums of 0. A refused replay writes nothing and returns no calls and the
+ * empty board. */
 enum {
-    FLOWPEWTER_ROWS = 1024,     /* places for rows on a board */
-    FLOWPEWTER_KEPT = 256,      /* places for journal entries on a board */
-    FLOWPEWTER_NODES = 65535,   /* most nodes of an index */
-    FLOWPEWTER_CONTENTS = 8,    /* words before the bodies of an index */
-    FLOWPEWTER_BODY = 6         /* words of a body: numeral, row number, tree size, parent rank, root rank, and
-                                   level in bits 0 to 15, closing in bit 30, orphan in bit 31 */
+    FLOWPEWTER_REFUSED_UNSOUND_BOARD = 1,      /* the board isn't sound: see flowpewter_sound */
+    FLOWPEWTER_REFUSED_NUMERAL_ZERO = 2,       /* an added row has numeral 0 */
+    FLOWPEWTER_REFUSED_FULL_BOARD = 3,         /* a row is added to 1,024 rows */
+    FLOWPEWTER_REFUSED_NO_SUCH_ROW = 4,        /* a withdrawn or remarked row number is 0 or above the count */
+    FLOWPEWTER_REFUSED_NOTHING_KEPT = 5,       /* undo finds no kept step */
+    FLOWPEWTER_REFUSED_UNKNOWN_CODE = 6,       /* the option code is above 23 */
+    FLOWPEWTER_REFUSED_DEPTH_WITH_ORPHANS = 7, /* a depth is given and orphans aren't ignored */
+    FLOWPEWTER_REFUSED_NO_START_ROW = 8,       /* there is an orphan to adopt and no start row to adopt it */
+    FLOWPEWTER_REFUSED_TOO_MANY_NODES = 9,     /* over 65,535 nodes, or more than the index or the totals hold */
+    FLOWPEWTER_REFUSED_CLOSING_NODE = 10,      /* a node closes a cycle, under FLOWPEWTER_CYCLE_ERROR */
+    FLOWPEWTER_REFUSED_SHARED_NUMERAL = 11,    /* two nodes share a numeral, under FLOWPEWTER_MULTI_ERROR; or a node
+                                                  with nodes below it shares its numeral, under
+                                                  FLOWPEWTER_MULTI_LEAVES */
+    FLOWPEWTER_REFUSED_UNREACHED_ROW = 12,     /* no path from a start row ends with some row, under
+                                                  FLOWPEWTER_ORPHAN_ERROR */
+    FLOWPEWTER_REFUSED_NO_INDEX = 13,          /* the index has under 8 words, word 1 isn't 8, word 2 isn't 6, word 0 is
+                                                  over 65,535 or more nodes than fit, or a sum gets fewer totals than
+                                                  nodes and one more */
+    FLOWPEWTER_REFUSED_NO_SUCH_RANK = 14,      /* the rank is 0 or above the number of nodes */
+    FLOWPEWTER_REFUSED_DAMAGED_INDEX = 15,     /* a span, descendants or subtree sum is of a node with size 0 or an end
+                                                  above the number of nodes; a way up meets a parent rank that isn't
+                                                  below its own; a total used is beyond 2^47 either side; or a node's
+                                                  own minutes used in a path sum leave int32_t */
+    FLOWPEWTER_REFUSED_LIST_TOO_LONG = 16,     /* the list found is longer than its slice */
+    /* by flowpewter_replay as a whole; what it says of each call is one of the above */
+    FLOWPEWTER_REFUSED_PART_OF_CALL = 101,     /* the words are no whole number of calls */
+    FLOWPEWTER_REFUSED_UNKNOWN_CALL = 102,     /* a call is of no known kind */
+    FLOWPEWTER_REFUSED_FEW_REFUSAL_WORDS = 103 /* there are fewer refusal words than calls */
+};
+
+/* ---- boards; refusals 1 to 5 */
+
+enum {
+    FLOWPEWTER_MAX_ROWS = 1024, /* places for rows on a board */
+    FLOWPEWTER_MAX_KEPT = 256   /* places for journal entries on a board: so many edits can be undone */
 };
 
 /* A row: parent 0 is none, the numeral is 1 or more, minutes are negative for a deduction. */
@@ -63,20 +84,28 @@ typedef struct flowpewter_row {
     int32_t minutes;
 } flowpewter_row;
 
-/* What undoes one edit; `at` is a place, counted from 0. Kind 0: an add, the last row goes; 1: a withdrawal, `row`
- * comes back at `at`; 2: a remark, place `at` becomes `row`. */
+/* Kinds of journal entry. */
+enum {
+    FLOWPEWTER_ENTRY_ADD = 0,        /* undone by dropping the last row */
+    FLOWPEWTER_ENTRY_WITHDRAWAL = 1, /* undone by putting `row` in again at place `at` */
+    FLOWPEWTER_ENTRY_REMARK = 2      /* undone by making place `at` hold `row` */
+};
+
+/* What undoes one edit. `at` is a place, counted from 0, and `row` the row that stood there before the edit. The entry
+ * of an add has the place and the row that were added, which nothing reads. */
 typedef struct flowpewter_entry {
     uint32_t kind;
     size_t at;
     flowpewter_row row;
 } flowpewter_entry;
 
-/* A board: `count` rows, and the `kept` newest edits, oldest first. Row numbers are counted from 1. */
+/* A board: `count` rows, and what undoes the `kept` newest edits, oldest first. Row numbers are counted from 1: row
+ * number k is rows[k - 1]. A board may come from anywhere; a call on one that isn't sound is refused. */
 typedef struct flowpewter_board {
     size_t count;
-    flowpewter_row rows[FLOWPEWTER_ROWS];
+    flowpewter_row rows[FLOWPEWTER_MAX_ROWS];
     size_t kept;
-    flowpewter_entry journal[FLOWPEWTER_KEPT];
+    flowpewter_entry journal[FLOWPEWTER_MAX_KEPT];
 } flowpewter_board;
 
 typedef struct flowpewter_edited {
@@ -84,47 +113,12 @@ typedef struct flowpewter_edited {
     uint32_t refusal;
 } flowpewter_edited;
 
-typedef struct flowpewter_replayed {
-    uint32_t refusal;
-    size_t calls;
-    flowpewter_board board;
-} flowpewter_replayed;
-
-typedef struct flowpewter_built {
-    uint32_t refusal;
-    uint32_t nodes;
-    uint32_t left; /* rows that end no node */
-} flowpewter_built;
-
-typedef struct flowpewter_span_answer {
-    uint32_t refusal;
-    size_t start; /* first word in the index slice, counted from 0 */
-    size_t words;
-} flowpewter_span_answer;
-
-typedef struct flowpewter_listed {
-    uint32_t refusal;
-    size_t len;
-} flowpewter_listed;
-
-typedef struct flowpewter_climbed {
-    uint32_t refusal;
-    size_t len;
-    size_t links; /* parent links followed, those to rank 0 not counted */
-} flowpewter_climbed;
-
-typedef struct flowpewter_summed {
-    uint32_t refusal;
-    int64_t sum;
-} flowpewter_summed;
-
-/* ---- boards; refusals 1 to 5 */
-
 /* The board of no rows and no kept edits. */
 flowpewter_board flowpewter_empty(void);
 
 /* Whether the count is at most 1,024, the kept number at most 256, every held row has numeral 1 or more, and the newest
- * entry (if any) can be undone to at most 1,024 rows, each with numeral 1 or more. */
+ * entry (if any) can be undone to at most 1,024 rows, each with numeral 1 or more. Every board that edits make from the
+ * empty one is sound. */
 bool flowpewter_sound(flowpewter_board board);
 
 /* Puts the row at the end. 1, 2, 3. */
@@ -139,22 +133,90 @@ flowpewter_edited flowpewter_remark(flowpewter_board board, size_t k, int32_t mi
 /* Goes back to the rows before the newest kept edit. 1, 5. */
 flowpewter_edited flowpewter_undo(flowpewter_board board);
 
-/* Runs calls from the empty board, five words to a call: 0, parent, numeral, order, minutes adds; 1, k withdraws; 2, k,
- * minutes remarks; 3 undoes; words that a call doesn't use are ignored, and minutes are the bits of an int32_t. The
- * refusal of each call goes to the front of `refusals`, 0 for none; the rest stays. 101, 102, 103. */
+/* Edits as words, five to a call: its kind, then what it takes; words that it doesn't use are ignored. */
+enum {
+    FLOWPEWTER_CALL_ADD = 0,      /* parent, numeral, order, minutes (the bits of an int32_t) */
+    FLOWPEWTER_CALL_WITHDRAW = 1, /* row number */
+    FLOWPEWTER_CALL_REMARK = 2,   /* row number, minutes */
+    FLOWPEWTER_CALL_UNDO = 3,
+    FLOWPEWTER_CALL_WORDS = 5
+};
+
+typedef struct flowpewter_replayed {
+    uint32_t refusal;
+    size_t calls;
+    flowpewter_board board;
+} flowpewter_replayed;
+
+/* Runs a list of edits from the empty board. The refusal of each, 0 for none, goes to the front of `refusals`; the rest
+ * of it stays. 101, 102, 103. */
 flowpewter_replayed flowpewter_replay(const uint32_t *words, size_t words_len, uint32_t *refusals, size_t refusals_len);
 
 /* ---- builds; refusals 1 and 6 to 12 */
 
-/* Builds the index of the board's paths and the running totals of their minutes; words and totals beyond stay.
+/* The index: a table of contents, then a body for each node, in the order of their ranks. */
+enum {
+    FLOWPEWTER_MAX_NODES = 65535, /* most nodes of an index */
+    FLOWPEWTER_CONTENTS = 8,      /* words of the table of contents: node count, 8, 6, the sum of all words of bodies
+                                     wrapping at 2^32, four zeros */
+    FLOWPEWTER_BODY = 6           /* words of a body */
+};
+
+/* The words of a body. */
+enum {
+    FLOWPEWTER_BODY_NUMERAL = 0,
+    FLOWPEWTER_BODY_ROW = 1,    /* number of the row that the node's path ends with */
+    FLOWPEWTER_BODY_SIZE = 2,   /* the node and all nodes below it */
+    FLOWPEWTER_BODY_PARENT = 3, /* rank of the parent, 0 for a root */
+    FLOWPEWTER_BODY_ROOT = 4,   /* rank of the root above the node */
+    FLOWPEWTER_BODY_LEVEL = 5   /* level, 1 for a root, in bits 0 to 15; flags in bits 30 and 31 */
+};
+
+#define FLOWPEWTER_LEVEL_MASK UINT32_C(0xffff)
+#define FLOWPEWTER_CLOSING_BIT (UINT32_C(1) << 30) /* the path closes a cycle: its last numeral stands on it before */
+#define FLOWPEWTER_ORPHAN_BIT (UINT32_C(1) << 31)  /* the node is on an orphan's path */
+
+/* Words of an index of so many nodes, the number of its totals, and where the body of a rank begins. */
+#define FLOWPEWTER_INDEX_LEN(nodes) (FLOWPEWTER_CONTENTS + FLOWPEWTER_BODY * (size_t)(nodes))
+#define FLOWPEWTER_TOTALS_LEN(nodes) ((size_t)(nodes) + 1)
+#define FLOWPEWTER_BODY_AT(rank) (FLOWPEWTER_CONTENTS + FLOWPEWTER_BODY * ((size_t)(rank) - 1))
+
+/* What becomes of orphans, rows that no path from a start row reaches. */
+enum {
+    FLOWPEWTER_ORPHAN_IGNORE = 0, /* they are left over */
+    FLOWPEWTER_ORPHAN_ERROR = 1,  /* the build is refused */
+    FLOWPEWTER_ORPHAN_ADOPT = 2,  /* those without a parent among the rows hang from the last start row */
+    FLOWPEWTER_ORPHAN_ROOT = 3    /* those without a parent among the rows are roots after all others */
+};
+
+/* Whether nodes may share a numeral. */
+enum {
+    FLOWPEWTER_MULTI_ALLOW = 0,  /* they may */
+    FLOWPEWTER_MULTI_LEAVES = 1, /* only nodes with nothing below them may */
+    FLOWPEWTER_MULTI_ERROR = 2   /* the build is refused if any do */
+};
+
+/* What becomes of a path that comes back to a numeral it has. */
+enum {
+    FLOWPEWTER_CYCLE_BREAK_UP = 0, /* it ends there, with a closing node */
+    FLOWPEWTER_CYCLE_ERROR = 1     /* the build is refused */
+};
+
+/* The option code of three choices. */
+#define FLOWPEWTER_CODE(orphan, multi, cycle) ((uint32_t)(orphan) + 4 * (uint32_t)(multi) + 12 * (uint32_t)(cycle))
+
+typedef struct flowpewter_built {
+    uint32_t refusal;
+    uint32_t nodes;
+    uint32_t left; /* rows that end no node */
+} flowpewter_built;
+
+/* Builds the index of the board's paths, and the running totals of their minutes: 0, then the minutes added node by
+ * node. Words and totals beyond stay.
  *
- * code is orphan + 4 * multi + 12 * cycle. Orphan: 0 ignore, 1 error, 2 adopt, 3 root. Multi: 0 allow, 1 leaves, 2
- * error. Cycle: 0 break up, 1 error. With has_depth, a path has at most depth + 1 rows, and none if depth is negative;
- * else depth is ignored. With by_list, paths start from rows whose numeral is in the list, else from rows with parent 0,
- * and the list is ignored.
- *
- * The index: node count n, 8, 6, the sum of all body words wrapping at 2^32, four zeros, then n bodies. The totals: 0,
- * then the minutes added node by node. */
+ * With has_depth, a path has at most depth + 1 rows, and none if depth is negative; else depth is ignored. With
+ * by_list, paths start from rows whose numeral is in the list; else from rows with parent 0, and the list is ignored.
+ */
 flowpewter_built flowpewter_build(flowpewter_board board, uint32_t code, bool has_depth, int32_t depth, bool by_list,
                                   const uint32_t *list, size_t list_len, uint32_t *index, size_t index_len,
                                   int64_t *totals, size_t totals_len);
@@ -164,16 +226,40 @@ flowpewter_built flowpewter_build_default(flowpewter_board board, uint32_t *inde
                                           size_t totals_len);
 
 /* ---- navigation of any slices, built here or not; refusals 13 to 16. Ranks are counted from 1. Distance is the listed
- * node's level less that of the rank given; lo and hi are included. Lists go to the front of `out`; the rest stays. */
+ * node's level less that of the rank given; lo and hi are included, and a lo above hi lists nothing. Lists go to the
+ * front of `out`; the rest of it stays. */
 
-/* Where the bodies of ranks r to r + size - 1 stand in the index. 13, 14, 15. */
+typedef struct flowpewter_span_answer {
+    uint32_t refusal;
+    size_t start; /* first word in the index slice, counted from 0; 0 if refused */
+    size_t words; /* 0 if refused */
+} flowpewter_span_answer;
+
+typedef struct flowpewter_listed {
+    uint32_t refusal;
+    size_t len;
+} flowpewter_listed;
+
+typedef struct flowpewter_climbed {
+    uint32_t refusal;
+    size_t len;
+    size_t links; /* parent links followed, those to rank 0 not counted: the level less 1 on a built index */
+} flowpewter_climbed;
+
+typedef struct flowpewter_summed {
+    uint32_t refusal;
+    int64_t sum;
+} flowpewter_summed;
+
+/* Where the bodies of a node and all nodes below it, ranks r to r + size - 1, stand in the index. 13, 14, 15. */
 flowpewter_span_answer flowpewter_span(const uint32_t *index, size_t index_len, uint32_t rank);
 
 /* The ranks of that span within the limits, rising. 13 to 16. */
 flowpewter_listed flowpewter_descendants(const uint32_t *index, size_t index_len, uint32_t rank, int32_t lo, int32_t hi,
                                          uint32_t *out, size_t out_len);
 
-/* The node, then parent after parent up to rank 0; those within the limits are listed. 13 to 16. */
+/* The node, then parent after parent up to rank 0; those within the limits are listed. On a built index distances are 0
+ * or less. 13 to 16. */
 flowpewter_climbed flowpewter_ancestors(const uint32_t *index, size_t index_len, uint32_t rank, int32_t lo, int32_t hi,
                                         uint32_t *out, size_t out_len);
 
@@ -189,7 +275,7 @@ flowpewter_summed flowpewter_subtree_sum(const uint32_t *index, size_t index_len
 flowpewter_summed flowpewter_path_sum(const uint32_t *index, size_t index_len, const int64_t *totals, size_t totals_len,
                                       uint32_t rank);
 
-/* Whether the slice holds an index whose words agree with each other. */
+/* Whether the slice holds an index whose words agree with each other, as every index that a build leaves does. */
 bool flowpewter_index_check(const uint32_t *index, size_t index_len);
 
 #ifdef __cplusplus

@@ -1,5 +1,5 @@
 #!/bin/sh
-# Every test that is no proof: the library from Rust and from C against the reference and the guide's tables, and the layouts of the structs.
+# Every test that is no proof: the library from Rust and from C against the reference and the guide's tables, and the layouts and constants of the header.
 # Needs the kit, a C compiler and cargo, and no network. Ends with `tests: all passed`, or fails at the first that doesn't.
 set -eu
 cd "$(dirname "$0")/.."
@@ -29,7 +29,7 @@ same() {
 compile layout tests/layout.c
 "$out/layout" >"$out/layout.c.out"
 cargo run --offline --release --quiet --manifest-path rust/Cargo.toml --bin layout >"$out/layout.rust.out"
-same "layouts in C and Rust" "$out/layout.c.out" "$out/layout.rust.out"
+same "layouts and constants in C and Rust" "$out/layout.c.out" "$out/layout.rust.out"
 
 compile valve examples/c/valve.c
 "$out/valve" >"$out/valve.c.out"
@@ -39,5 +39,8 @@ same "the valve in Rust and its listing" "$out/valve.rust.out" examples/valve.ou
 
 compile stack tests/stack.c
 "$out/stack"
+
+compile empty_slices tests/empty_slices.c
+"$out/empty_slices"
 
 echo "tests: all passed"

@@ -24,8 +24,8 @@ static int refused(uint32_t refusal) {
 }
 
 int main(void) {
-    static uint32_t index[FLOWPEWTER_CONTENTS + FLOWPEWTER_BODY * NODES];
-    static int64_t totals[NODES + 1];
+    static uint32_t index[FLOWPEWTER_INDEX_LEN(NODES)];
+    static int64_t totals[FLOWPEWTER_TOTALS_LEN(NODES)];
     const size_t index_len = sizeof index / sizeof index[0];
     const size_t totals_len = sizeof totals / sizeof totals[0];
 
@@ -46,14 +46,14 @@ int main(void) {
 
     int64_t minutes = 0;
     for (uint32_t rank = 1; rank <= built.nodes; rank++) {
-        const uint32_t *body = index + FLOWPEWTER_CONTENTS + FLOWPEWTER_BODY * (rank - 1);
-        if (body[0] == 40) {
+        const uint32_t *body = index + FLOWPEWTER_BODY_AT(rank);
+        if (body[FLOWPEWTER_BODY_NUMERAL] == 40) {
             flowpewter_summed summed = flowpewter_subtree_sum(index, index_len, totals, totals_len, rank);
             if (summed.refusal != 0) {
                 return refused(summed.refusal);
             }
-            printf("numeral 40 at rank %" PRIu32 ", level %" PRIu32 ": %" PRId64 " minutes\n", rank, body[5] & 0xffff,
-                   summed.sum);
+            printf("numeral 40 at rank %" PRIu32 ", level %" PRIu32 ": %" PRId64 " minutes\n", rank,
+                   body[FLOWPEWTER_BODY_LEVEL] & FLOWPEWTER_LEVEL_MASK, summed.sum);
             minutes += summed.sum;
         }
     }

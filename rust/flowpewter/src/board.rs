@@ -25,21 +25,33 @@ impl Row {
     }
 }
 
-/// A journal entry: what undoes one edit. `at` is a place, counted from 0.
-///
-/// Kind 0 is an add, undone by dropping the last row; 1 a withdrawal, undone by putting `row` back in at `at`;
-/// 2 a remark, undone by setting place `at` to `row`.
+/// A journal entry: what undoes one edit. `at` is a place, counted from 0, and `row` the row that stood there before.
+/// The entry of an add has the place and the row that were added, which nothing reads.
 #[repr(C)]
 #[derive(Clone, Copy, Debug, PartialEq, Eq, Hash, Default)]
 pub struct Entry {
+    /// [`Entry::ADD`], [`Entry::WITHDRAWAL`] or [`Entry::REMARK`].
     pub kind: u32,
     pub at: usize,
     pub row: Row,
 }
 
+impl Entry {
+    /// The kind of an add, undone by dropping the last row.
+    pub const ADD: u32 = 0;
+    /// The kind of a withdrawal, undone by putting `row` in again at place `at`.
+    pub const WITHDRAWAL: u32 = 1;
+    /// The kind of a remark, undone by making place `at` hold `row`.
+    pub const REMARK: u32 = 2;
+}
+
 /// A board: its rows and the journal of its last 256 edits, oldest first.
 ///
-/// The fields are open since a board may come from anywhere: a call on one that isn't sound is refused.
+/// The fields are open since a board may come from anywhere: a call on one that isn't sound is refused. Row number k is
+/// `rows[k - 1]`.
+///
+/// Two boards are the same when what they hold is, [`Board::held`] and [`Board::steps`]. `==` compares all places, also
+/// those beyond the counts, which hold what was left there.
 ///
 /// ```
 /// use flowpewter::{Board, Refusal, Row};
@@ -85,7 +97,30 @@ impl Board {
         &self.rows[..self.count.min(MAX_ROWS)]
     }
 
-    /// Whether the board is one that edits and builds take.
+    /// The kept journal entries, oldest first; of a kept number above 256, which no sound board has, all places.
+    ///
+    /// ```
+    /// use flowpewter::{Board, Entry, Refusal, Row};
+    ///
+    /// let mut board = Board::EMPTY;
+    /// board.add(Row::new(0, 10, 1, 30))?;
+    /// board.remark(1, 45)?;
+    /// assert_eq!(board.steps().last(), Some(&Entry { kind: Entry::REMARK, at: 0, row: Row::new(0, 10, 1, 30) }));
+    ///
+    /// let before = board;
+    /// board.add(Row::new(10, 40, 1, 12))?;
+    /// board.undo()?;
+    /// assert_eq!((board.held(), board.steps()), (before.held(), before.steps()));
+    /// assert_ne!(board, before); // the place of the row that was added keeps it
+    /// # Ok::<(), Refusal>(())
+    /// ```
+    pub fn steps(&self) -> &[Entry] {
+        &self.journal[..self.kept.min(MAX_KEPT)]
+    }
+
+    /// Whether the board is one that edits and builds take: the count is at most 1,024, the kept number at most 256,
+    /// every held row has numeral 1 or more, and the newest entry, if any, can be undone to such rows. Every board that
+    /// edits make from the empty one is sound.
     ///
     /// ```
     /// use flowpewter::Board;
@@ -134,6 +169,9 @@ impl Board {
     }
 }
 
+/// Words of a call that [`replay`] reads.
+pub const CALL_WORDS: usize = 5;
+
 /// An edit as a value. Row numbers are counted from 1.
 #[derive(Clone, Copy, Debug, PartialEq, Eq, Hash)]
 pub enum Call {
@@ -144,8 +182,8 @@ pub enum Call {
 }
 
 impl Call {
-    /// The five words by which `replay` knows the call.
-    pub fn words(self) -> [u32; 5] {
+    /// The words by which [`replay`] knows the call.
+    pub fn words(self) -> [u32; CALL_WORDS] {
         match self {
             Call::Add(row) => [0, row.parent, row.numeral, row.order, row.minutes as u32],
             Call::Withdraw(number) => [1, number, 0, 0, 0],

@@ -11,6 +11,12 @@ pub const CONTENTS: usize = 8;
 pub const BODY: usize = 6;
 /// Most nodes that an index holds.
 pub const MAX_NODES: usize = 65_535;
+/// The bits of the level in a body's last word.
+pub const LEVEL_MASK: u32 = 0xffff;
+/// The bit in a body's last word that tells a closing path.
+pub const CLOSING_BIT: u32 = 1 << 30;
+/// The bit in a body's last word that tells an orphan's path.
+pub const ORPHAN_BIT: u32 = 1 << 31;
 
 /// Words of an index of so many nodes.
 pub const fn index_len(nodes: usize) -> usize {
@@ -38,6 +44,7 @@ pub struct Body {
     pub level: u32,
     /// The path closes a cycle: its last numeral stands on it before.
     pub closing: bool,
+    /// The node is on an orphan's path.
     pub orphan: bool,
 }
 
@@ -45,9 +52,9 @@ impl Body {
     /// Unpacks the words of a body.
     ///
     /// ```
-    /// use flowpewter::Body;
+    /// use flowpewter::{Body, CLOSING_BIT};
     ///
-    /// let body = Body::of_words([40, 6, 1, 2, 1, 3 | 1 << 30]);
+    /// let body = Body::of_words([40, 6, 1, 2, 1, 3 | CLOSING_BIT]);
     /// assert_eq!((body.numeral, body.parent, body.level), (40, 2, 3));
     /// assert!(body.closing && !body.orphan);
     /// ```
@@ -59,9 +66,9 @@ impl Body {
             size,
             parent,
             root,
-            level: last & 0xffff,
-            closing: last >> 30 & 1 == 1,
-            orphan: last >> 31 == 1,
+            level: last & LEVEL_MASK,
+            closing: last & CLOSING_BIT != 0,
+            orphan: last & ORPHAN_BIT != 0,
         }
     }
 }

@@ -8,6 +8,10 @@
 //! * [`replay`]: a list of edits as words.
 //!
 //! Every call takes every argument: what can't be done is refused, by a [`Refusal`], and never a panic.
+//!
+//! Boards are passed by value and working space is on the stack: a build takes some 130 KB of it, an edit or a replay up
+//! to 125 KB, and a board in a variable is 25 KB more. That is little for the 2 MB of a Rust thread; a thread made with
+//! `Builder::stack_size` wants 512 KB. The library that is linked is compiled for x86-64 Linux alone.
 #![deny(unsafe_code)]
 
 mod board;
@@ -16,10 +20,10 @@ mod index;
 mod refusal;
 pub mod sys;
 
-pub use board::{replay, Board, Call, Entry, Row, MAX_KEPT, MAX_ROWS};
+pub use board::{replay, Board, Call, Entry, Row, CALL_WORDS, MAX_KEPT, MAX_ROWS};
 pub use build::{build, build_with_code, Built, Cycle, Multi, Options, Orphan, Start};
 pub use index::{
     ancestors, bodies, descendants, index_check, index_len, path_sum, siblings, span, subtree_sum,
-    totals_len, Ancestors, Body, BODY, CONTENTS, MAX_NODES,
+    totals_len, Ancestors, Body, BODY, CLOSING_BIT, CONTENTS, LEVEL_MASK, MAX_NODES, ORPHAN_BIT,
 };
 pub use refusal::{Refusal, REFUSALS};

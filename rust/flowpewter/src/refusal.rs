@@ -6,6 +6,9 @@ use std::fmt;
 
 /// Why a call was refused. Of the conditions that hold, the one with the smallest number is given.
 ///
+/// A refused edit leaves the board as it was, a refused build zeroes both slices, a refused navigation, sum or replay
+/// writes nothing. The names and numbers are those of the C header, `FLOWPEWTER_REFUSED_UNSOUND_BOARD` and so on.
+///
 /// ```
 /// use flowpewter::{Board, Refusal, Row};
 ///

@@ -32,7 +32,7 @@ pub struct Built {
     pub left: u32,
 }
 
-/// Where a span stands in the index slice.
+/// Where a span stands in the index slice: its first word, counted from 0, and its number of words; both 0 if refused.
 #[repr(C)]
 #[derive(Clone, Copy, Debug, PartialEq, Eq)]
 pub struct Span {
@@ -170,7 +170,7 @@ pub fn replay(words: &[u32], refusals: &mut [u32]) -> Replayed {
     unsafe { flowpewter_replay(words.as_ptr(), words.len(), refusals.as_mut_ptr(), refusals.len()) }
 }
 
-/// Start rows are those with parent 0 where there is no list.
+/// Start rows are those with parent 0 where there is no list. The code is that of [`crate::Options::code`].
 pub fn build(
     board: &Board,
     code: u32,

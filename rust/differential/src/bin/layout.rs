@@ -1,7 +1,7 @@
-//! Prints size, alignment and field offsets of each struct; `tests/layout.c` prints those of the header.
+//! Prints size, alignment and field offsets of each struct, and each constant; `tests/layout.c` prints the header's.
 
-use flowpewter::sys::{Built, Climbed, Edited, Listed, Replayed, Span, Summed};
-use flowpewter::{Board, Entry, Row};
+use flowpewter::sys::{self, Climbed, Edited, Listed, Replayed, Span, Summed};
+use flowpewter::*;
 use std::mem::{align_of, offset_of, size_of};
 
 macro_rules! layout {
@@ -11,15 +11,40 @@ macro_rules! layout {
     };
 }
 
+macro_rules! constants {
+    ($($name:ident)*) => { $(println!("{} {}", stringify!($name), $name);)* };
+}
+
 fn main() {
     layout!("row", Row, parent numeral order minutes);
     layout!("entry", Entry, kind at row);
     layout!("board", Board, count rows kept journal);
     layout!("edited", Edited, board refusal);
     layout!("replayed", Replayed, refusal calls board);
-    layout!("built", Built, refusal nodes left);
+    layout!("built", sys::Built, refusal nodes left);
     layout!("span_answer", Span, refusal start words);
     layout!("listed", Listed, refusal len);
     layout!("climbed", Climbed, refusal len links);
     layout!("summed", Summed, refusal sum);
+    constants!(MAX_ROWS MAX_KEPT MAX_NODES CONTENTS BODY LEVEL_MASK CLOSING_BIT ORPHAN_BIT CALL_WORDS);
+    println!("entries {} {} {}", Entry::ADD, Entry::WITHDRAWAL, Entry::REMARK);
+    println!("lengths {} {}", index_len(7), totals_len(7));
+    for refusal in REFUSALS {
+        println!("{refusal:?} {}", refusal.number());
+    }
+    for orphan in [Orphan::Ignore, Orphan::Error, Orphan::Adopt, Orphan::Root] {
+        for multi in [Multi::Allow, Multi::Leaves, Multi::Error] {
+            for cycle in [Cycle::BreakUp, Cycle::Error] {
+                let options = Options { orphan, multi, cycle, ..Options::default() };
+                println!("{orphan:?} {multi:?} {cycle:?} {}", options.code());
+            }
+        }
+    }
+    for call in [Call::Add(Row::default()), Call::Withdraw(0), Call::Remark(0, 0), Call::Undo] {
+        println!("call {}", call.words()[0]);
+    }
+    let words = [0, 1, 2, 3, 4, 5];
+    let body = Body::of_words(words);
+    let places = [body.numeral, body.row, body.size, body.parent, body.root, body.level];
+    println!("body {places:?}");
 }

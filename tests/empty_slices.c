@@ -1,0 +1,107 @@
+/* Every call with a null pointer for a slice of length 0, in each place that takes one: it answers as the header says.
+ * Prints what is wrong, and fails then. */
+#include "flowpewter.h"
+#include <stdio.h>
+
+enum { WORDS = FLOWPEWTER_INDEX_LEN(1), TOTALS = FLOWPEWTER_TOTALS_LEN(1) };
+
+/* A board with one row, and its index and totals. */
+static flowpewter_board one;
+static uint32_t words[WORDS];
+static int64_t totals[TOTALS];
+static int wrong;
+
+static void expect(const char *what, bool right) {
+    if (!right) {
+        printf("empty slices: %s is WRONG\n", what);
+        wrong = 1;
+    }
+}
+
+static void refused(const char *what, uint32_t refusal, uint32_t expected) { expect(what, refusal == expected); }
+
+static void builds_into_nothing(void) {
+    const uint32_t short_slice = FLOWPEWTER_REFUSED_TOO_MANY_NODES;
+    refused("no words and no totals", flowpewter_build_default(one, NULL, 0, NULL, 0).refusal, short_slice);
+    refused("no totals", flowpewter_build_default(one, words, WORDS, NULL, 0).refusal, short_slice);
+    refused("no words", flowpewter_build_default(one, NULL, 0, totals, TOTALS).refusal, short_slice);
+    refused("an empty board", flowpewter_build_default(flowpewter_empty(), NULL, 0, NULL, 0).refusal, short_slice);
+    refused("code 24", flowpewter_build(one, 24, false, 0, true, NULL, 0, NULL, 0, NULL, 0).refusal,
+            FLOWPEWTER_REFUSED_UNKNOWN_CODE);
+}
+
+/* The one row is an orphan where no numeral is a start. */
+static void builds_from_no_numerals(void) {
+    for (uint32_t code = 0; code < 24; code++) {
+        const flowpewter_built built =
+            flowpewter_build(one, code, false, 0, true, NULL, 0, words, WORDS, totals, TOTALS);
+        switch (code % 4) {
+        case FLOWPEWTER_ORPHAN_IGNORE:
+            expect("orphans ignored", built.refusal == 0 && built.nodes == 0 && built.left == 1);
+            break;
+        case FLOWPEWTER_ORPHAN_ERROR:
+            refused("orphans refused", built.refusal, FLOWPEWTER_REFUSED_UNREACHED_ROW);
+            break;
+        case FLOWPEWTER_ORPHAN_ADOPT:
+            refused("orphans adopted", built.refusal, FLOWPEWTER_REFUSED_NO_START_ROW);
+            break;
+        default:
+            expect("orphans as roots", built.refusal == 0 && built.nodes == 1 && built.left == 0);
+        }
+    }
+}
+
+static void builds_that_read_no_list(void) {
+    for (uint32_t code = 0; code < 24; code++) {
+        const flowpewter_built built =
+            flowpewter_build(one, code, false, 0, false, NULL, 0, words, WORDS, totals, TOTALS);
+        expect("a list that isn't read", built.refusal == 0 && built.nodes == 1 && totals[1] == 5);
+    }
+}
+
+static void navigation_of_nothing(void) {
+    const uint32_t no_index = FLOWPEWTER_REFUSED_NO_INDEX;
+    const flowpewter_span_answer part = flowpewter_span(NULL, 0, 1);
+    expect("span", part.refusal == no_index && part.start == 0 && part.words == 0);
+    refused("descendants", flowpewter_descendants(NULL, 0, 1, 0, 9, NULL, 0).refusal, no_index);
+    refused("ancestors", flowpewter_ancestors(NULL, 0, 1, 0, 9, NULL, 0).refusal, no_index);
+    refused("siblings", flowpewter_siblings(NULL, 0, 1, NULL, 0).refusal, no_index);
+    refused("subtree sum", flowpewter_subtree_sum(NULL, 0, NULL, 0, 1).refusal, no_index);
+    refused("path sum", flowpewter_path_sum(NULL, 0, NULL, 0, 1).refusal, no_index);
+    refused("subtree sum of no totals", flowpewter_subtree_sum(words, WORDS, NULL, 0, 1).refusal, no_index);
+    refused("path sum of no totals", flowpewter_path_sum(words, WORDS, NULL, 0, 1).refusal, no_index);
+    expect("index check", !flowpewter_index_check(NULL, 0));
+}
+
+static void lists_to_nowhere(void) {
+    const uint32_t too_long = FLOWPEWTER_REFUSED_LIST_TOO_LONG;
+    refused("a descendant", flowpewter_descendants(words, WORDS, 1, 0, 0, NULL, 0).refusal, too_long);
+    refused("no descendant", flowpewter_descendants(words, WORDS, 1, 1, 0, NULL, 0).refusal, 0);
+    refused("an ancestor", flowpewter_ancestors(words, WORDS, 1, 0, 0, NULL, 0).refusal, too_long);
+    refused("no ancestor", flowpewter_ancestors(words, WORDS, 1, 1, 0, NULL, 0).refusal, 0);
+    refused("a sibling", flowpewter_siblings(words, WORDS, 1, NULL, 0).refusal, too_long);
+}
+
+static void replays(void) {
+    const uint32_t undo[FLOWPEWTER_CALL_WORDS] = {FLOWPEWTER_CALL_UNDO};
+    uint32_t refusals[1] = {7};
+    refused("no calls", flowpewter_replay(NULL, 0, NULL, 0).refusal, 0);
+    refused("no calls, one word for refusals", flowpewter_replay(NULL, 0, refusals, 1).refusal, 0);
+    expect("that word", refusals[0] == 7);
+    refused("no words for refusals", flowpewter_replay(undo, FLOWPEWTER_CALL_WORDS, NULL, 0).refusal,
+            FLOWPEWTER_REFUSED_FEW_REFUSAL_WORDS);
+}
+
+int main(void) {
+    one = flowpewter_add(flowpewter_empty(), (flowpewter_row){0, 10, 1, 5}).board;
+    builds_into_nothing();
+    builds_from_no_numerals();
+    builds_that_read_no_list();
+    navigation_of_nothing();
+    lists_to_nowhere();
+    replays();
+    if (!wrong) {
+        printf("empty slices: all agree\n");
+    }
+    return wrong;
+}
