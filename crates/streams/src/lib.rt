@@ -2,6 +2,9 @@
 use libc::STDIN_FILENO;
 use libc::STDOUT_FILENO;
 use listing::Load;
+ghost use mathlib.Core.Path.{_≡_};
+ghost use Rattle.listing.specs.Loading.{stopped};
+ghost use Rattle.streams.specs.Reading.{Fed, OfText};
 
 // A load, and whether the input has ended.
 struct Reading {
@@ -10,7 +13,9 @@ struct Reading {
 }
 
 // Reads once. A read that fails counts as the end of the input.
-fn read_some(load: Load) -> Reading {
+fn read_some(load: Load) -> Reading
+    ensures { λ r. ⌜ Fed load (r .load) ⌝ }
+{
     let mut buf = io::buffer();
     let got = libc::read(STDIN_FILENO, &mut buf);
     if got <= 0 {
@@ -25,7 +30,9 @@ fn read_some(load: Load) -> Reading {
 }
 
 // Reads the input to its end, or to the first thing that is wrong.
-pub fn read_all() -> Load {
+pub fn read_all() -> Load
+    ensures { λ r. ⌜ OfText r ⌝ }
+{
     let mut now = Load::start();
     let mut turns = u64::MAX;
     while turns > 0 {
@@ -43,7 +50,7 @@ pub fn read_all() -> Load {
         }
         now = next;
     }
-    now
+    now.end()
 }
 
 // Prints `refused`, a space and a refusal's number.
@@ -61,7 +68,9 @@ fn print_bad_line(line: u64) {
 }
 
 // Prints what is wrong with a load and answers true, or answers false.
-pub fn print_wrong(load: Load) -> bool {
+pub fn print_wrong(load: Load) -> bool
+    ensures { λ r. ⌜ r ≡ stopped load ⌝ }
+{
     if load.bad {
         print_bad_line(load.line);
         return true;
