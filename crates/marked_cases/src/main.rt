@@ -1,28 +1,12 @@
 // Runs the marked cases M1 to M10 of paper 01 on its board of seven rows, then builds whose refusals or slices are easy to get wrong; prints one line a case after M1's listing.
-ghost use Prim.Native.Nat.{_≤_};
 use board::Board;
-use board::Row;
+use cases::answer;
+use cases::number;
+use cases::say;
 use libc::STDOUT_FILENO;
 use options::Depth;
 use request::Built;
 use request::Start;
-
-fn say(text: &[u8]) {
-    io::write_all(STDOUT_FILENO, text);
-}
-
-fn number(n: u32) {
-    say(b" ");
-    io::print_decimal(STDOUT_FILENO, n as u64);
-}
-
-fn answer(yes: bool) {
-    if yes {
-        say(b" yes");
-    } else {
-        say(b" no");
-    }
-}
 
 // The first n words of a list.
 fn words(list: &[u32], n: usize) {
@@ -52,57 +36,6 @@ fn totals_are(list: &[i64], value: i64) -> bool {
     while i < list.len() {
         let total = list[i];
         if total != value {
-            return false;
-        }
-        i += 1;
-    }
-    true
-}
-
-fn row(parent: u32, numeral: u32, order: u32, minutes: i32) -> Row {
-    Row {
-        parent: parent,
-        numeral: numeral,
-        order: order,
-        minutes: minutes,
-    }
-}
-
-// The seven rows of the listing program's board.
-fn paper_board() -> Board {
-    let mut board = Board::EMPTY;
-    board = board.add(row(0, 10, 1, 5)).board;
-    board = board.add(row(10, 20, 2, 3)).board;
-    board = board.add(row(10, 30, 1, 4)).board;
-    board = board.add(row(20, 40, 1, 2)).board;
-    board = board.add(row(30, 40, 1, 1)).board;
-    board = board.add(row(40, 20, 1, -1)).board;
-    board = board.add(row(90, 91, 1, 7)).board;
-    board
-}
-
-fn same_row(a: Row, b: Row) -> bool {
-    if a.parent != b.parent {
-        return false;
-    }
-    if a.numeral != b.numeral {
-        return false;
-    }
-    if a.order != b.order {
-        return false;
-    }
-    a.minutes == b.minutes
-}
-
-// Whether the first n places hold the same rows.
-fn same_rows(a: Board, b: Board, n: usize) -> bool
-    requires { ⌜ n ≤ 1024 ⌝ }
-{
-    let mut i: usize = 0;
-    while i < n {
-        let x = a.rows[i];
-        let y = b.rows[i];
-        if !same_row(x, y) {
             return false;
         }
         i += 1;
@@ -154,7 +87,7 @@ fn listed(name: &[u8], code: u32, list: &[u32]) {
     let mut index = [7u32; 62];
     let mut totals = [7i64; 10];
     let built = build::build(
-        paper_board(),
+        cases::sample_board(),
         code,
         Depth::None,
         Start::Listed,
@@ -170,7 +103,13 @@ fn listed(name: &[u8], code: u32, list: &[u32]) {
 fn listing() {
     let mut index = [0u32; 62];
     let mut totals = [0i64; 10];
-    let built = over_zero(paper_board(), 3, Depth::None, &mut index, &mut totals);
+    let built = over_zero(
+        cases::sample_board(),
+        3,
+        Depth::None,
+        &mut index,
+        &mut totals,
+    );
     say(b"M1 code 3");
     report(built);
     say(b"\n");
@@ -180,7 +119,13 @@ fn listing() {
 fn adopted() {
     let mut index = [0u32; 62];
     let mut totals = [0i64; 10];
-    let built = over_zero(paper_board(), 2, Depth::None, &mut index, &mut totals);
+    let built = over_zero(
+        cases::sample_board(),
+        2,
+        Depth::None,
+        &mut index,
+        &mut totals,
+    );
     say(b"M3 code 2");
     report(built);
     say(b", rank 9 parent");
@@ -195,7 +140,13 @@ fn adopted() {
 fn descendants() {
     let mut index = [0u32; 62];
     let mut totals = [0i64; 10];
-    over_zero(paper_board(), 3, Depth::None, &mut index, &mut totals);
+    over_zero(
+        cases::sample_board(),
+        3,
+        Depth::None,
+        &mut index,
+        &mut totals,
+    );
     let mut out = [0u32; 9];
     let found = navigate::descendants(&index, 2, 2, 3, &mut out);
     say(b"M6 descendants of 2 at distances 2 to 3: refusal");
@@ -208,7 +159,13 @@ fn descendants() {
 fn ancestors() {
     let mut index = [0u32; 62];
     let mut totals = [0i64; 10];
-    over_zero(paper_board(), 3, Depth::None, &mut index, &mut totals);
+    over_zero(
+        cases::sample_board(),
+        3,
+        Depth::None,
+        &mut index,
+        &mut totals,
+    );
     let mut out = [0u32; 9];
     let found = navigate::ancestors(&index, 5, -4, 0, &mut out);
     say(b"M7 ancestors of 5 at distances -4 to 0: refusal");
@@ -221,7 +178,7 @@ fn ancestors() {
 }
 
 fn withdraw_and_undo() {
-    let before = paper_board();
+    let before = cases::sample_board();
     let out = before.withdraw(2);
     let without = out.board;
     let back = without.undo();
@@ -232,12 +189,12 @@ fn withdraw_and_undo() {
     say(b", the same count");
     answer(before.count == after.count);
     say(b", the same rows");
-    answer(same_rows(before, after, 7));
+    answer(cases::same_rows(before, after, 7));
     say(b"\n");
 }
 
 fn marked() {
-    let board = paper_board();
+    let board = cases::sample_board();
     listing();
     asked(b"M2 code 0", board, 0, Depth::None);
     adopted();
@@ -255,8 +212,8 @@ fn marked() {
 
 // Where several refusals hold, the first in the paper's order is the answer.
 fn first_refusals() {
-    let board = paper_board();
-    let mut unsound = paper_board();
+    let board = cases::sample_board();
+    let mut unsound = cases::sample_board();
     unsound.count = 1025;
     let none = [99u32; 1];
     let thirty = [30u32; 1];
@@ -271,7 +228,7 @@ fn first_refusals() {
 
 // A refused build leaves both slices all zero.
 fn zeroed(name: &[u8], code: u32, index: &mut [u32], totals: &mut [i64]) {
-    let built = over_zero(paper_board(), code, Depth::None, index, totals);
+    let built = over_zero(cases::sample_board(), code, Depth::None, index, totals);
     say(name);
     report(built);
     say(b", index all zero");
@@ -298,7 +255,13 @@ fn short_slices() {
 fn long_slices() {
     let mut index = [7u32; 70];
     let mut totals = [7i64; 12];
-    let built = over_zero(paper_board(), 0, Depth::None, &mut index, &mut totals);
+    let built = over_zero(
+        cases::sample_board(),
+        0,
+        Depth::None,
+        &mut index,
+        &mut totals,
+    );
     say(b"code 0, 70 words of 7");
     report(built);
     say(b", words beyond are 7");

@@ -1,8 +1,8 @@
--- `marked_cases::same_rows` meets its contract. Assumes nothing.
+-- `cases::same_rows` meets its contract. Assumes nothing.
 use borrow.Author.Needs.{needs}
 use Prim.Native.Nat.{_≤_, _-_}
-use Rattle.marked_cases.proofs.same_rows.Statement.{statement}
-use Rattle.marked_cases.proofs.same_rows.Tie as tie
+use Rattle.cases.proofs.same_rows.Statement.{statement}
+use Rattle.cases.proofs.same_rows.Tie as tie
 
 abbrev Inv-loop : tie.InvT-loop
 Inv-loop n a b i₀ i = i ≤ n
