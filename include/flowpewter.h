@@ -1,5 +1,11 @@
 /* Flowpewter: parts lists with undo, their forest of paths as an index, navigation and sums.
  *
+ * A board holds rows, each with a numeral and the numeral of its parent. A path is a chain of rows from a start row
+ * down, each under the numeral of the row before; it is a node of its last row. So a part that is shown in three places
+ * is three nodes, each with all that is below it. A build writes the nodes into an index, in the order of their ranks,
+ * which begin at 1: a node comes before the nodes below it, and siblings by their order, then by their row number. The
+ * other calls look into such an index by rank. docs/INDEX-FORMAT.md has an example, word by word.
+ *
  * Link with target/staticlib/libflowpewter.a, which `rt staticlib flowpewter` makes. It is compiled for x86-64 Linux
  * (System V calls, any x86-64 processor, position-independent) and for nothing else; of the C library it takes memcpy,
  * memmove and memset alone.
@@ -47,7 +53,8 @@ enum {
     FLOWPEWTER_REFUSED_UNKNOWN_CODE = 6,       /* the option code is above 23 */
     FLOWPEWTER_REFUSED_DEPTH_WITH_ORPHANS = 7, /* a depth is given and orphans aren't ignored */
     FLOWPEWTER_REFUSED_NO_START_ROW = 8,       /* there is an orphan to adopt and no start row to adopt it */
-    FLOWPEWTER_REFUSED_TOO_MANY_NODES = 9,     /* over 65,535 nodes, or more than the index or the totals hold */
+    FLOWPEWTER_REFUSED_TOO_MANY_NODES = 9,     /* over 65,535 nodes, or more than the index or the totals hold:
+                                                  FLOWPEWTER_INDEX_LEN and FLOWPEWTER_TOTALS_LEN say what they need */
     FLOWPEWTER_REFUSED_CLOSING_NODE = 10,      /* a node closes a cycle, under FLOWPEWTER_CYCLE_ERROR */
     FLOWPEWTER_REFUSED_SHARED_NUMERAL = 11,    /* two nodes share a numeral, under FLOWPEWTER_MULTI_ERROR; or a node
                                                   with nodes below it shares its numeral, under

@@ -4,16 +4,19 @@
 //! sibling order, and a mark per class tells whether it stands on the path. Nothing is allocated.
 
 use flowpewter::sys::{Built, Edited, Listed};
-use flowpewter::{Board, Entry, Row, BODY, CONTENTS, MAX_KEPT, MAX_NODES, MAX_ROWS};
+use flowpewter::{
+    Board, Entry, Row, BODY, CLOSING_BIT, CONTENTS, LEVEL_MASK, MAX_KEPT, MAX_NODES, MAX_ROWS,
+    ORPHAN_BIT,
+};
 
 /// Stands for no class.
 const NONE: u16 = u16::MAX;
 
 fn can_undo(entry: &Entry, count: usize) -> bool {
     match entry.kind {
-        0 => count > 0,
-        1 => entry.row.numeral != 0 && count < MAX_ROWS && entry.at <= count,
-        2 => entry.row.numeral != 0 && entry.at < count,
+        Entry::ADD => count > 0,
+        Entry::WITHDRAWAL => entry.row.numeral != 0 && count < MAX_ROWS && entry.at <= count,
+        Entry::REMARK => entry.row.numeral != 0 && entry.at < count,
         _ => false,
     }
 }
@@ -53,7 +56,7 @@ pub fn add_in_place(board: &mut Board, row: Row) -> u32 {
     if board.count == MAX_ROWS {
         return 3;
     }
-    note(board, Entry { kind: 0, at: board.count, row });
+    note(board, Entry { kind: Entry::ADD, at: board.count, row });
     board.rows[board.count] = row;
     board.count += 1;
     0
@@ -200,7 +203,7 @@ impl Walk<'_> {
         within: &[bool; MAX_ROWS],
         stack: &mut [Level; MAX_ROWS + 1],
     ) -> Option<()> {
-        let flag = if ORPHAN { 1 << 31 } else { 0 };
+        let flag = if ORPHAN { ORPHAN_BIT } else { 0 };
         let rank = self.write(first, parent, root, (base + 1) | flag)?;
         let root = if root == 0 { rank } else { root };
         self.reached[first] = true;
@@ -226,7 +229,7 @@ impl Walk<'_> {
             self.reached[place] = true;
             let class = self.links.class_of[place];
             let closing = self.marks[class as usize];
-            let word = (base + 1 + depth as u32) | flag | (closing as u32) << 30;
+            let word = (base + 1 + depth as u32) | flag | (closing as u32 * CLOSING_BIT);
             let rank = self.write(place, above, root, word)?;
             if closing {
                 self.closing = true;
@@ -417,9 +420,9 @@ pub fn descendants(index: &[u32], rank: u32, lo: i32, hi: i32, out: &mut [u32]) 
         return refused(15);
     }
     let span = &bodies[BODY * (first - 1)..BODY * (first + size - 1)];
-    let base = (span[5] & 0xffff) as i64;
+    let base = (span[5] & LEVEL_MASK) as i64;
     let (lo, hi) = (lo as i64 + base, hi as i64 + base);
-    let keeps = |body: &[u32]| (lo..=hi).contains(&((body[5] & 0xffff) as i64));
+    let keeps = |body: &[u32]| (lo..=hi).contains(&((body[5] & LEVEL_MASK) as i64));
     let len = span.chunks_exact(BODY).filter(|body| keeps(body)).count();
     if len > out.len() {
         return refused(16);
@@ -458,11 +461,11 @@ pub fn index_check(index: &[u32]) -> bool {
             return false;
         }
         if above == 0 {
-            return end <= n as u64 && body[4] as usize == rank && body[5] & 0xffff == 1;
+            return end <= n as u64 && body[4] as usize == rank && body[5] & LEVEL_MASK == 1;
         }
         let parent = &bodies[BODY * (above - 1)..BODY * above];
         end < above as u64 + parent[2] as u64
             && body[4] == parent[4]
-            && body[5] & 0xffff == (parent[5] & 0xffff) + 1
+            && body[5] & LEVEL_MASK == (parent[5] & LEVEL_MASK) + 1
     })
 }
