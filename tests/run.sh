@@ -43,4 +43,8 @@ compile stack tests/stack.c
 compile empty_slices tests/empty_slices.c
 "$out/empty_slices"
 
+sh tests/unproved.sh
+target/unproved/numerals <examples/pump.txt >"$out/pump.unproved.out"
+same "the listing program without a proof and its listing" "$out/pump.unproved.out" examples/pump.out
+
 echo "tests: all passed"

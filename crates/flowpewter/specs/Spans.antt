@@ -1,12 +1,10 @@
--- A span as a place and a number of words, for callers that get no returned slice, and that they cut out the span. Assumes nothing.
+-- A span as a place and a number of words, for callers that get no returned slice. Assumes nothing: these are definitions.
 use Prim.Native.Nat.{ℕ, _*_}
-use mathlib.Core.Path.{_≡_, refl}
-use mathlib.Core.Bool.{Bool, true, false, cond}
-use mathlib.Core.List.{List, []}
-use lib.ListN.{take, drop}
+use mathlib.Core.Bool.{cond}
+use mathlib.Core.List.{List}
 use lib.Dec.{eqb}
 use Rattle.image.specs.Layout.{bodyAt, sizeAt}
-use Rattle.navigate.specs.Navigate.{spanRefusal, spanPart}
+use Rattle.navigate.specs.Navigate.{spanRefusal}
 use Rattle.flowpewter.specs.declared.Span.{Span}
 
 -- "Span: a returned part of the index slice, the bodies of ranks r to r + size − 1"; "a refused navigation .. returns .. a span of no words"
@@ -14,13 +12,3 @@ unfoldable pub spanOf : List ℕ → ℕ → Span
 spanOf s rank =
     cond (eqb (spanRefusal s rank) 0) (record { refusal = 0; start = bodyAt rank; words = 6 * sizeAt s rank })
     (record { refusal = spanRefusal s rank; start = 0; words = 0 })
-
--- the words that start and length cut out are those of the span
-cut : (s : List ℕ) (rank : ℕ) (b : Bool) (x y : Span) → x .start ≡ bodyAt rank → x .words ≡ 6 * sizeAt s rank → y .words ≡ 0
-    → take (cond b x y .words) (drop (cond b x y .start) s) ≡ cond b (take (6 * sizeAt s rank) (drop (bodyAt rank) s)) []
-cut s rank true x y e f g = rw e (rw f refl)
-cut s rank false x y e f g = rw g refl
-
-pub span-cut : (s : List ℕ) (rank : ℕ) → take (spanOf s rank .words) (drop (spanOf s rank .start) s) ≡ spanPart s rank
-unfolding spanOf
-span-cut s rank = cut s rank (eqb (spanRefusal s rank) 0) _ _ refl refl refl
