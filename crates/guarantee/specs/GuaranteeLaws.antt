@@ -22,7 +22,7 @@ use Rattle.options.specs.declared.Depth.{Depth}
 use Rattle.options.specs.declared.Depth.the-variants.{None, Limit}
 use Rattle.options.specs.Options.{orphanOf}
 use Rattle.image.specs.Layout.{imageWords}
-use Rattle.image.specs.ImageLaws.{Holds, holds-front, bodies-read}
+use Rattle.image.specs.ImageLaws.{HoldsImage, holds-front, bodies-read}
 use Rattle.paths.specs.Forest.{memb}
 use Rattle.paths.specs.Paths.{last, Orphan}
 use Rattle.paths.specs.Nodes.{nodes}
@@ -107,7 +107,7 @@ module _ (R : List Row) (few : length R ≤ 1024) (code : ℕ) (depth : Depth) (
   unfolding leftOf
   left-length = refl
 
-  held : Holds (indexOf true) (bodies R starts depth o)
+  held : HoldsImage (indexOf true) (bodies R starts depth o)
   held = holds-front (bodies R starts depth o) index
 
   running : HoldsTotals (minutesOf R) W (totalsOf true)

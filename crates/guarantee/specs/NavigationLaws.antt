@@ -9,7 +9,7 @@ use lib.ListN.{length, replicate}
 use Rattle.lists.specs.Choice.{after}
 use Rattle.image.specs.Layout.{badContents}
 use Rattle.navigate.specs.Navigate.{badRank, badSpan, endOf, spanRefusal, descendantList, listAnswer, listOut, descendantsAnswer, descendantsOut}
-use Rattle.sums.specs.Sums.{totalAt, fewTotals, beyond, sumAnswer, subtreeSum, subtreeAnswer}
+use Rattle.sums.specs.Sums.{totalAt, fewTotals, beyond, sumAnswer, spanSum, subtreeAnswer}
 
 or-yes : (a : Bool) → a || true ≡ true
 or-yes true = refl
@@ -35,4 +35,4 @@ module _ (n : ℕ) where
   zeros-sum t rank =
       let z : List ℕ = replicate n 0 in
       let far : ℕ = cond (beyond (totalAt t (endOf z rank)) || beyond (totalAt t (rank - 1))) 15 0 in
-      ap (λ b. sumAnswer (after (after (after (cond b 13 0) (cond (fewTotals z t) 13 0)) (spanRefusal z rank)) far) (subtreeSum z t rank)) (zeros-bad n)
+      ap (λ b. sumAnswer (after (after (after (cond b 13 0) (cond (fewTotals z t) 13 0)) (spanRefusal z rank)) far) (spanSum z t rank)) (zeros-bad n)

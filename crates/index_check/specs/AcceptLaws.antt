@@ -12,7 +12,7 @@ use lib.Seq.{take-append-seam}
 use borrow.Author.Tests.{eq-eqb, ne-eqb, le-leb}
 use Rattle.lists.specs.Ranges.{all-of, largest-here, largest-below}
 use Rattle.image.specs.Layout.{nodeCount, sizeAt, parentAt, rootAt, wordAt, levelAt, packed, flat, checked, contentsWords, imageWords, bodyOf, badContents}
-use Rattle.image.specs.ImageLaws.{Holds, node-count-read, contents-read, contents-hold, word-packed, length-flat}
+use Rattle.image.specs.ImageLaws.{HoldsImage, node-count-read, contents-read, contents-hold, word-packed, length-flat}
 use Rattle.image.specs.declared.Body.{Body}
 use Rattle.navigate.specs.Navigate.{endOf}
 use Rattle.index_check.specs.IndexCheck.{contains, parentOf, zerosRight, checkRight, sizeRight, endRight, parentRight, levelRight, rootRight, bitsRight, rankRight, accepts}
@@ -99,7 +99,7 @@ packed-bits l true false = omega arith
 packed-bits l false true = omega arith
 packed-bits l false false = omega arith
 
-module _ {s : List ℕ} {bs : List Body} (h : Holds s bs) where
+module _ {s : List ℕ} {bs : List Body} (h : HoldsImage s bs) where
   image-zeros : zerosRight s ≡ true
   unfolding zerosRight contentsWords
   image-zeros = simp (contents-read h 4 (omega arith), contents-read h 5 (omega arith), contents-read h 6 (omega arith), contents-read h 7 (omega arith))

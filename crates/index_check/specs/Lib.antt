@@ -1,4 +1,5 @@
 pub mod IndexCheck
+pub mod IndexCheckLayer
 pub mod RankLaws
 pub mod CheckLaws
 pub mod NavigationLaws

@@ -2,14 +2,13 @@
 use mathlib.Core.Path.{_≡_, refl, ap, _∙_}
 use mathlib.Core.Bool.{Bool, true, false, cond, _&&_}
 use mathlib.Core.List.{List}
-use Prim.Native.Nat.{ℕ, _+_, _*_, _-_, _≤_, _<_}
+use Prim.Native.Nat.{ℕ, _+_, _-_, _≤_, _<_}
 use native.Mathlib.Decide.{ℕ-discrete}
 use native.Mathlib.Omega.{arith}
-use lib.ListN.{length}
 use lib.Dec.{ltb, leb}
 use borrow.Author.Tests.{ltb-true, lt-ltb, leb-true, le-leb, eqb-true}
 use Rattle.lists.specs.Choice.{and-yes}
-use Rattle.lists.specs.Ranges.{allTo, largestTo, largest-here, largest-le, largest-holds, largest-above, largest-below}
+use Rattle.lists.specs.Ranges.{largestTo, largest-here, largest-le, largest-holds, largest-above, largest-below}
 use Rattle.image.specs.Layout.{sizeAt, parentAt, badContents, contentsRefusal}
 use Rattle.index_check.specs.IndexCheck.{contains, parentOf, sizeRight, endRight, parentRight, levelRight, rootRight, bitsRight, rankRight}
 
@@ -19,22 +18,6 @@ contents-some s h = here (badContents s) refl
     here : (t : Bool) → badContents s ≡ t → badContents s ≡ true
     here true e = e
     here false e = absurd (h (ap (λ (t : Bool). cond t 13 0) e))
-
--- a rank whose body is in the slice
-pub record InIndex (s : List ℕ) (k : ℕ) : Type 0 where
-  pub low : 1 ≤ k
-  pub small : k ≤ 65535
-  pub room : 8 + 6 * k ≤ length s
-
--- such a rank, all lower ranks being right
-pub record Before (s : List ℕ) (k : ℕ) : Type 0 where
-  pub held : InIndex s k
-  pub lower : allTo (rankRight s) (k - 1) ≡ true
-
--- such a rank, with a parent rank below it
-pub record Linked (s : List ℕ) (k : ℕ) : Type 0 where
-  pub held : InIndex s k
-  pub below : parentAt s k < k
 
 -- all that is asked of a rank
 pub record Right (s : List ℕ) (k : ℕ) : Type 0 where

@@ -1,35 +1,26 @@
 // Whether a lent slice is an index: paper 01, "Index check". One pass over the ranks, each compared with its parent's words.
 ghost use mathlib.Core.Path.{_≡_};
-ghost use Prim.Native.Nat.{_+_, _*_, _<_, _≤_};
-ghost use lib.ListN.{length, getD};
+ghost use Prim.Native.Nat.{_≤_};
+ghost use lib.ListN.{length};
 ghost use Rattle.lists.specs.Ranges.{allTo};
-ghost use Rattle.image.specs.Layout.{bodyAt, nodeCount};
+ghost use Rattle.image.specs.Layout.{bodiesEnd, nodeCount};
 ghost use Rattle.index_check.specs.IndexCheck.{parentOf, sizeRight, endRight, parentRight, levelRight, rootRight, bitsRight, rankRight, zerosRight, checkRight, accepts};
-ghost use Rattle.index_check.specs.RankLaws.{InIndex, Before, Linked};
-
-// The word at a place of a rank's body: 2 size, 3 parent rank, 4 root rank, 5 level and bits.
-fn word(index: &[u32], rank: usize, place: usize) -> u32
-    requires { ⌜ (InIndex (now index) rank) × (place < 6) ⌝ }
-    ensures { λ r. ⌜ r ≡ getD (now (index .entry)) (bodyAt rank + place) 0 ⌝ }
-{
-    let at = 8 + 6 * (rank - 1);
-    index[at + place]
-}
+ghost use Rattle.index_check.specs.IndexCheckLayer.{InIndex, LowerRight, ParentBelow};
 
 // The largest lower rank whose interval contains rank k, else 0. The climb goes from parent to parent: the lower ranks are
 // right, so that no rank between a rank and its parent reaches beyond that rank. No later climb meets a rank that this one
 // leaves, so that all climbs together take time in proportion to the number of ranks.
 fn find_parent(index: &[u32], k: usize) -> usize
-    requires { ⌜ Before (now index) k ⌝ }
+    requires { ⌜ LowerRight (now index) k ⌝ }
     ensures { λ r. ⌜ r ≡ parentOf (now (index .entry)) k ⌝ }
 {
     let mut j = k - 1;
     while 0 < j {
-        let size = word(index, j, 2) as usize;
-        if k < j + size {
+        let body = image::body_of(index, j);
+        if k < j + body.size as usize {
             return j;
         }
-        j = word(index, j, 3) as usize;
+        j = body.parent as usize;
     }
     0
 }
@@ -38,63 +29,64 @@ fn size_right(index: &[u32], k: usize) -> bool
     requires { ⌜ InIndex (now index) k ⌝ }
     ensures { λ r. ⌜ r ≡ sizeRight (now (index .entry)) k ⌝ }
 {
-    1 <= word(index, k, 2)
+    1 <= image::body_of(index, k).size
 }
 
 fn parent_right(index: &[u32], k: usize) -> bool
-    requires { ⌜ Before (now index) k ⌝ }
+    requires { ⌜ LowerRight (now index) k ⌝ }
     ensures { λ r. ⌜ r ≡ parentRight (now (index .entry)) k ⌝ }
 {
-    let parent = word(index, k, 3) as usize;
+    let parent = image::body_of(index, k).parent as usize;
     parent == find_parent(index, k)
 }
 
 fn end_right(index: &[u32], k: usize) -> bool
-    requires { ⌜ Linked (now index) k ⌝ }
+    requires { ⌜ ParentBelow (now index) k ⌝ }
     ensures { λ r. ⌜ r ≡ endRight (now (index .entry)) k ⌝ }
 {
-    let last = k + word(index, k, 2) as usize - 1;
-    let parent = word(index, k, 3) as usize;
+    let body = image::body_of(index, k);
+    let last = k + body.size as usize - 1;
+    let parent = body.parent as usize;
     if parent == 0 {
         return last <= index[0] as usize;
     }
-    last <= parent + word(index, parent, 2) as usize - 1
+    last <= parent + image::body_of(index, parent).size as usize - 1
 }
 
 fn level_right(index: &[u32], k: usize) -> bool
-    requires { ⌜ Linked (now index) k ⌝ }
+    requires { ⌜ ParentBelow (now index) k ⌝ }
     ensures { λ r. ⌜ r ≡ levelRight (now (index .entry)) k ⌝ }
 {
-    let level = image::level_of(word(index, k, 5));
-    let parent = word(index, k, 3) as usize;
+    let body = image::body_of(index, k);
+    let parent = body.parent as usize;
     if parent == 0 {
-        return level == 1;
+        return body.level == 1;
     }
-    level == image::level_of(word(index, parent, 5)) + 1
+    body.level == image::body_of(index, parent).level + 1
 }
 
 fn root_right(index: &[u32], k: usize) -> bool
-    requires { ⌜ Linked (now index) k ⌝ }
+    requires { ⌜ ParentBelow (now index) k ⌝ }
     ensures { λ r. ⌜ r ≡ rootRight (now (index .entry)) k ⌝ }
 {
-    let root = word(index, k, 4) as usize;
-    let parent = word(index, k, 3) as usize;
+    let body = image::body_of(index, k);
+    let parent = body.parent as usize;
     if parent == 0 {
-        return root == k;
+        return body.root as usize == k;
     }
-    root == word(index, parent, 4) as usize
+    body.root == image::body_of(index, parent).root
 }
 
 fn bits_right(index: &[u32], k: usize) -> bool
     requires { ⌜ InIndex (now index) k ⌝ }
     ensures { λ r. ⌜ r ≡ bitsRight (now (index .entry)) k ⌝ }
 {
-    ((word(index, k, 5) >> 16) & 16383) == 0
+    ((image::word_at(index, k) >> 16) & 16383) == 0
 }
 
 // The parent rank comes before the conditions that read the parent's words.
 fn rank_right(index: &[u32], k: usize) -> bool
-    requires { ⌜ Before (now index) k ⌝ }
+    requires { ⌜ LowerRight (now index) k ⌝ }
     ensures { λ r. ⌜ r ≡ rankRight (now (index .entry)) k ⌝ }
 {
     if !size_right(index, k) {
@@ -117,7 +109,7 @@ fn rank_right(index: &[u32], k: usize) -> bool
 
 // Whether all ranks to n are right.
 fn ranks_right(index: &[u32], n: usize) -> bool
-    requires { ⌜ (n ≤ 65535) × (8 + 6 * n ≤ length (now index)) ⌝ }
+    requires { ⌜ (n ≤ 65535) × (bodiesEnd n ≤ length (now index)) ⌝ }
     ensures { λ r. ⌜ r ≡ allTo (rankRight (now (index .entry))) n ⌝ }
 {
     let mut k: usize = 0;
@@ -146,11 +138,11 @@ fn zeros_right(index: &[u32]) -> bool
     index[7] == 0
 }
 
-fn check_right(index: &[u32], n: usize) -> bool
-    requires { ⌜ (n ≡ nodeCount (now index)) × (n ≤ 65535) × (8 + 6 * n ≤ length (now index)) ⌝ }
+fn check_right(index: &[u32], n: u32) -> bool
+    requires { ⌜ (n ≡ nodeCount (now index)) × (n ≤ 65535) × (bodiesEnd n ≤ length (now index)) ⌝ }
     ensures { λ r. ⌜ r ≡ checkRight (now (index .entry)) ⌝ }
 {
-    let end = 8 + 6 * n;
+    let end = image::bodies_end(n);
     index[3] == image::add_words(&index[8..end], 0)
 }
 
@@ -161,12 +153,12 @@ pub fn index_check(index: &[u32]) -> bool
     if image::contents_refusal(index) != 0 {
         return false;
     }
-    let n = index[0] as usize;
+    let n = index[0];
     if !zeros_right(index) {
         return false;
     }
     if !check_right(index, n) {
         return false;
     }
-    ranks_right(index, n)
+    ranks_right(index, n as usize)
 }

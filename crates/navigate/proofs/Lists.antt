@@ -31,8 +31,8 @@ list-fits n l out out' h e e' = (simp (le-ltb (length out) (length l) h) (cc), s
 abbrev found : Bool → List ℕ → List ℕ → Climbed
 found t r l = cond t (record { refusal = 15; len = 0; links = 0 }) (record { refusal = 0; len = length l; links = length r - 1 })
 
-pub found-counts : (len met n m : ℕ) → len ≡ n → met ≡ m → _≡_ {A = Climbed} (record { refusal = 0; len = len; links = met - 1 }) (record { refusal = 0; len = n; links = m - 1 })
-found-counts len met n m e e' = λ i. record { refusal = 0; len = e i; links = e' i - 1 }
+pub found-counts : (len links n m : ℕ) → len ≡ n → links ≡ m → _≡_ {A = Climbed} (record { refusal = 0; len = len; links = links }) (record { refusal = 0; len = n; links = m })
+found-counts len links n m e e' = λ i. record { refusal = 0; len = e i; links = e' i }
 
 pub climb-stuck : (t : Bool) (r l out : List ℕ) (x : Climbed) → x ≡ found t r l → (x .refusal ≡ 0 → ⊥)
     → (x ≡ climbAnswer (cond t 15 0) r l out) × (out ≡ listOut (cond t 15 0) l out)

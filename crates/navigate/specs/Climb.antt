@@ -8,8 +8,7 @@ use lib.IntN.{ℤ}
 use Rattle.lists.specs.Members.{filter}
 use Rattle.lists.specs.Choice.{after}
 use Rattle.image.specs.Layout.{parentAt}
-use Rattle.navigate.specs.Navigate.{rankRefusal, within, distance, keepsAt, listRefusal, listOut}
-use Rattle.navigate.specs.declared.Keep.{Keep}
+use Rattle.navigate.specs.Navigate.{rankRefusal, within, rankDistance, listRefusal, listOut}
 use Rattle.navigate.specs.declared.Climbed.{Climbed}
 
 -- the ranks met, up to rank 0 or to one whose parent rank is not below it; `fuel` bounds their number, and the rank itself is enough
@@ -34,7 +33,7 @@ climbRefusal s rank = after (rankRefusal s rank) (cond (badClimb s rank) 15 0)
 
 -- ancestors: those of the chain within the limits
 abbrev pub ancestorList : List ℕ → ℕ → ℤ → ℤ → List ℕ
-ancestorList s rank lo hi = filter (λ k. within lo hi (distance s rank k)) (chain s rank)
+ancestorList s rank lo hi = filter (λ k. within lo hi (rankDistance s rank k)) (chain s rank)
 
 -- the result of a climb: the length of its list, and the parent links followed, those to rank 0 not counted
 abbrev pub climbAnswer : ℕ → List ℕ → List ℕ → List ℕ → Climbed
@@ -50,10 +49,3 @@ ancestorsAnswer s rank lo hi out = climbAnswer (climbRefusal s rank) (chain s ra
 
 abbrev pub ancestorsOut : List ℕ → ℕ → ℤ → ℤ → List ℕ → List ℕ
 ancestorsOut s rank lo hi out = listOut (climbRefusal s rank) (ancestorList s rank lo hi) out
-
--- what a climb finds before anything is written: 15, or how many of its ranks are kept, and its links
-abbrev pub climbed : List ℕ → Keep → ℕ → Climbed
-climbed s keep rank =
-    cond (badClimb s rank)
-    (record { refusal = 15; len = 0; links = 0 })
-    (record { refusal = 0; len = length (filter (keepsAt s keep) (chain s rank)); links = length (chain s rank) - 1 })

@@ -11,9 +11,9 @@ use borrow.Author.Tests.{eqb-false, ltb-false, ne-eqb, le-ltb}
 use Rattle.lists.specs.Choice.{or-no}
 use Rattle.lists.specs.Members.{_∈_, getD-in, filter, filter-agree, numbers, numbers-out}
 use Rattle.image.specs.Layout.{nodeCount, sizeAt, levelAt}
-use Rattle.image.specs.ImageLaws.{Holds, node-count-read, contents-hold, size-read, level-read}
+use Rattle.image.specs.ImageLaws.{HoldsImage, node-count-read, contents-hold, size-read, level-read}
 use Rattle.image.specs.declared.Body.{Body}
-use Rattle.navigate.specs.Navigate.{badRank, badSpan, endOf, rankRefusal, spanRefusal, within, distance, descendantList}
+use Rattle.navigate.specs.Navigate.{badRank, badSpan, endOf, rankRefusal, spanRefusal, within, rankDistance, descendantList}
 
 -- the body of a rank
 abbrev pub nth : List Body → Body → ℕ → Body
@@ -30,7 +30,7 @@ Levelled bs = (b : Body) → b ∈ bs → b .level < 65536
 abbrev pub noRank : List Body → ℕ → Bool
 noRank bs rank = eqb rank 0 || ltb (length bs) rank
 
-module _ {s : List ℕ} {bs : List Body} (h : Holds s bs) where
+module _ {s : List ℕ} {bs : List Body} (h : HoldsImage s bs) where
   bad-rank : (rank : ℕ) → badRank s rank ≡ noRank bs rank
   unfolding badRank
   bad-rank rank = ap (λ (n : ℕ). eqb rank 0 || ltb n rank) (node-count-read h)
@@ -72,7 +72,7 @@ module _ {s : List ℕ} {bs : List Body} (h : Holds s bs) where
             ≡ filter (λ k. within lo hi (pos (nth bs d k .level) -ℤ pos (nth bs d rank .level))) (numbers rank (nth bs d rank .size))
         unfolding descendantList
         descendants-held =
-            ap (λ (n : ℕ). filter (λ k. within lo hi (distance s rank k)) (numbers rank n)) (size-read h rank d low high)
+            ap (λ (n : ℕ). filter (λ k. within lo hi (rankDistance s rank k)) (numbers rank n)) (size-read h rank d low high)
             ∙ filter-agree _ _ (numbers rank (nth bs d rank .size))
             (λ k m.
             let o = numbers-out rank (nth bs d rank .size) k m in

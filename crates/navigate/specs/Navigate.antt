@@ -11,8 +11,6 @@ use Rattle.lists.specs.Stores.{front}
 use Rattle.lists.specs.Choice.{after}
 use Rattle.image.specs.Layout.{nodeCount, bodyAt, sizeAt, parentAt, levelAt, badContents}
 use Rattle.navigate.specs.declared.Listed.{Listed}
-use Rattle.navigate.specs.declared.Keep.{Keep}
-use Rattle.navigate.specs.declared.Keep.the-variants.{Within, Under}
 
 -- refusal 14: the rank is 0 or above n
 unfoldable pub badRank : List ℕ → ℕ → Bool
@@ -40,18 +38,13 @@ spanPart s rank = cond (eqb (spanRefusal s rank) 0) (take (6 * sizeAt s rank) (d
 abbrev pub within : ℤ → ℤ → ℤ → Bool
 within lo hi distance = leZ lo distance && leZ distance hi
 
--- the test of one rank: its distance from a level is within limits, or it has a parent rank
-abbrev pub keepsAt : List ℕ → Keep → ℕ → Bool
-keepsAt s (Within base lo hi) k = within lo hi (pos (levelAt s k) -ℤ pos base)
-keepsAt s (Under parent) k = eqb (parentAt s k) parent
-
 -- distance: the listed node's level less that of the rank given
-abbrev pub distance : List ℕ → ℕ → ℕ → ℤ
-distance s rank k = pos (levelAt s k) -ℤ pos (levelAt s rank)
+abbrev pub rankDistance : List ℕ → ℕ → ℕ → ℤ
+rankDistance s rank k = pos (levelAt s k) -ℤ pos (levelAt s rank)
 
 -- descendants: ranks of the span within the limits, rising
 unfoldable pub descendantList : List ℕ → ℕ → ℤ → ℤ → List ℕ
-descendantList s rank lo hi = filter (λ k. within lo hi (distance s rank k)) (numbers rank (sizeAt s rank))
+descendantList s rank lo hi = filter (λ k. within lo hi (rankDistance s rank k)) (numbers rank (sizeAt s rank))
 
 -- siblings: all ranks with the same parent rank, rising
 unfoldable pub siblingList : List ℕ → ℕ → List ℕ

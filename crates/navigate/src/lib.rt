@@ -1,14 +1,16 @@
 // Navigation over an index image that anybody may have written: spans, descendants, siblings, ancestors.
 ghost use mathlib.Core.Path.{_≡_};
 ghost use mathlib.Core.Bool.{false, cond};
-ghost use Prim.Native.Nat.{_+_, _*_, _-_, _≤_};
+ghost use Prim.Native.Nat.{_+_, _-_, _≤_};
 ghost use lib.IntN.{pos, _-ℤ_};
 ghost use lib.ListN.{length};
 ghost use Rattle.lists.specs.Members.{filter, numbers};
 ghost use Rattle.lists.specs.Stores.{front};
-ghost use Rattle.navigate.specs.Navigate.{rankRefusal, spanRefusal, spanPart, within, keepsAt, listAnswer, listOut};
+ghost use Rattle.image.specs.Layout.{bodiesEnd};
+ghost use Rattle.navigate.specs.Navigate.{rankRefusal, spanRefusal, spanPart, within, listAnswer, listOut};
 ghost use Rattle.navigate.specs.Navigate.{descendantsAnswer, descendantsOut, siblingsAnswer, siblingsOut};
-ghost use Rattle.navigate.specs.Climb.{chain, badClimb, climbed, climbAnswer, ancestorsAnswer, ancestorsOut};
+ghost use Rattle.navigate.specs.Climb.{chain, badClimb, climbAnswer, ancestorsAnswer, ancestorsOut};
+ghost use Rattle.navigate.specs.NavigateLayer.{keepsAt, climbed};
 
 // The answer to a call that lists ranks.
 #[repr(C)]
@@ -66,8 +68,7 @@ pub fn span_refusal(index: &[u32], rank: u32) -> u32
     if n < r {
         return 14;
     }
-    let at = 8 + 6 * (r - 1);
-    let size = index[at + 2] as usize;
+    let size = image::body_of(index, r).size as usize;
     if size == 0 {
         return 15;
     }
@@ -86,10 +87,9 @@ pub fn span(index: &[u32], rank: u32) -> &[u32]
         return &index[0..0];
     }
     let r = rank as usize;
-    let at = 8 + 6 * (r - 1);
-    let size = index[at + 2] as usize;
-    let last = r + size - 1;
-    let end = 8 + 6 * last;
+    let body = image::body_of(index, r);
+    let at = image::body_at(r);
+    let end = image::bodies_end(rank + body.size - 1);
     &index[at..end]
 }
 
@@ -105,19 +105,19 @@ fn is_within(level: u32, base: u32, lo: i32, hi: i32) -> bool
 }
 
 fn keeps(index: &[u32], k: usize, keep: Keep) -> bool
-    requires { ⌜ (1 ≤ k) × (8 + 6 * k ≤ length (now index)) ⌝ }
+    requires { ⌜ (1 ≤ k) × (bodiesEnd k ≤ length (now index)) ⌝ }
     ensures { λ r. ⌜ r ≡ keepsAt (now (index .entry)) keep k ⌝ }
 {
-    let at = 8 + 6 * (k - 1);
+    let body = image::body_of(index, k);
     match keep {
-        Keep::Within(base, lo, hi) => is_within(image::level_of(index[at + 5]), base, lo, hi),
-        Keep::Under(parent) => index[at + 3] == parent,
+        Keep::Within(base, lo, hi) => is_within(body.level, base, lo, hi),
+        Keep::Under(parent) => body.parent == parent,
     }
 }
 
 // How many of the `size` ranks from `r` on are kept.
 fn count_kept(index: &[u32], r: usize, size: usize, keep: Keep) -> usize
-    requires { ⌜ (1 ≤ r) × (8 + 6 * (r + size - 1) ≤ length (now index)) ⌝ }
+    requires { ⌜ (1 ≤ r) × (bodiesEnd (r + size - 1) ≤ length (now index)) ⌝ }
     ensures { λ n. ⌜ n ≡ length (filter (keepsAt (now (index .entry)) keep) (numbers r size)) ⌝ }
 {
     let mut n: usize = 0;
@@ -133,7 +133,7 @@ fn count_kept(index: &[u32], r: usize, size: usize, keep: Keep) -> usize
 
 // Writes those ranks to the front of the slice.
 fn write_kept(index: &[u32], r: usize, size: usize, keep: Keep, out: &mut [u32]) -> usize
-    requires { ⌜ (1 ≤ r) × (8 + 6 * (r + size - 1) ≤ length (now index)) × (r + size ≤ 65536) ⌝ }
+    requires { ⌜ (1 ≤ r) × (bodiesEnd (r + size - 1) ≤ length (now index)) × (r + size ≤ 65536) ⌝ }
     requires { ⌜ length (filter (keepsAt (now index) keep) (numbers r size)) ≤ length (now out) ⌝ }
     ensures { λ n. ⌜ n ≡ length (filter (keepsAt (now (index .entry)) keep) (numbers r size)) ⌝ }
     ensures { λ _. ⌜ now (out .exit) ≡ front (filter (keepsAt (now (index .entry)) keep) (numbers r size)) (now (out .entry)) ⌝ }
@@ -152,7 +152,7 @@ fn write_kept(index: &[u32], r: usize, size: usize, keep: Keep, out: &mut [u32])
 
 // Counts first, since a list that is too long must leave the slice as it was.
 fn list_kept(index: &[u32], r: usize, size: usize, keep: Keep, out: &mut [u32]) -> Listed
-    requires { ⌜ (1 ≤ r) × (8 + 6 * (r + size - 1) ≤ length (now index)) × (r + size ≤ 65536) ⌝ }
+    requires { ⌜ (1 ≤ r) × (bodiesEnd (r + size - 1) ≤ length (now index)) × (r + size ≤ 65536) ⌝ }
     ensures { λ x. ⌜ x ≡ listAnswer 0 (filter (keepsAt (now (index .entry)) keep) (numbers r size)) (now (out .entry)) ⌝ }
     ensures { λ _. ⌜ now (out .exit) ≡ listOut 0 (filter (keepsAt (now (index .entry)) keep) (numbers r size)) (now (out .entry)) ⌝ }
 {
@@ -180,10 +180,9 @@ pub fn descendants(index: &[u32], rank: u32, lo: i32, hi: i32, out: &mut [u32]) 
         return Listed { refusal, len: 0 };
     }
     let r = rank as usize;
-    let at = 8 + 6 * (r - 1);
-    let size = index[at + 2] as usize;
-    let base = image::level_of(index[at + 5]);
-    list_kept(index, r, size, Keep::Within(base, lo, hi), out)
+    let body = image::body_of(index, r);
+    let size = body.size as usize;
+    list_kept(index, r, size, Keep::Within(body.level, lo, hi), out)
 }
 
 // All ranks with the same parent rank, rising, at the front of the slice.
@@ -197,22 +196,20 @@ pub fn siblings(index: &[u32], rank: u32, out: &mut [u32]) -> Listed
     }
     let n = index[0] as usize;
     let r = rank as usize;
-    let at = 8 + 6 * (r - 1);
-    let parent = index[at + 3];
-    list_kept(index, 1, n, Keep::Under(parent), out)
+    let body = image::body_of(index, r);
+    list_kept(index, 1, n, Keep::Under(body.parent), out)
 }
 
 // Climbs from a rank to rank 0: 15 where a parent rank is not below its own, else how many of the ranks met are kept, and the links.
 fn climb(index: &[u32], rank: usize, keep: Keep) -> Climbed
-    requires { ⌜ (1 ≤ rank) × (8 + 6 * rank ≤ length (now index)) ⌝ }
+    requires { ⌜ (1 ≤ rank) × (bodiesEnd rank ≤ length (now index)) ⌝ }
     ensures { λ x. ⌜ x ≡ climbed (now (index .entry)) keep rank ⌝ }
 {
     let mut k = rank;
     let mut len: usize = 0;
-    let mut met: usize = 0;
-    while 0 < k {
-        let at = 8 + 6 * (k - 1);
-        let parent = index[at + 3] as usize;
+    let mut links: usize = 0;
+    loop {
+        let parent = image::body_of(index, k).parent as usize;
         if k <= parent {
             return Climbed {
                 refusal: 15,
@@ -223,27 +220,28 @@ fn climb(index: &[u32], rank: usize, keep: Keep) -> Climbed
         if keeps(index, k, keep) {
             len += 1;
         }
-        met += 1;
+        if parent == 0 {
+            return Climbed {
+                refusal: 0,
+                len,
+                links,
+            };
+        }
+        links += 1;
         k = parent;
-    }
-    Climbed {
-        refusal: 0,
-        len,
-        links: met - 1,
     }
 }
 
 // Climbs again, and writes the ranks that are kept.
 fn write_climb(index: &[u32], rank: usize, keep: Keep, out: &mut [u32])
-    requires { ⌜ (1 ≤ rank) × (8 + 6 * rank ≤ length (now index)) × (rank ≤ 65535) × (badClimb (now index) rank ≡ false) ⌝ }
+    requires { ⌜ (1 ≤ rank) × (bodiesEnd rank ≤ length (now index)) × (rank ≤ 65535) × (badClimb (now index) rank ≡ false) ⌝ }
     requires { ⌜ length (filter (keepsAt (now index) keep) (chain (now index) rank)) ≤ length (now out) ⌝ }
     ensures { λ _. ⌜ now (out .exit) ≡ front (filter (keepsAt (now (index .entry)) keep) (chain (now (index .entry)) rank)) (now (out .entry)) ⌝ }
 {
     let mut k = rank;
     let mut n: usize = 0;
     while 0 < k {
-        let at = 8 + 6 * (k - 1);
-        let parent = index[at + 3] as usize;
+        let parent = image::body_of(index, k).parent as usize;
         if keeps(index, k, keep) {
             out[n] = k as u32;
             n += 1;
@@ -254,7 +252,7 @@ fn write_climb(index: &[u32], rank: usize, keep: Keep, out: &mut [u32])
 
 // Counts first, since a climb that is refused must leave the slice as it was.
 fn list_climb(index: &[u32], rank: usize, keep: Keep, out: &mut [u32]) -> Climbed
-    requires { ⌜ (1 ≤ rank) × (8 + 6 * rank ≤ length (now index)) × (rank ≤ 65535) ⌝ }
+    requires { ⌜ (1 ≤ rank) × (bodiesEnd rank ≤ length (now index)) × (rank ≤ 65535) ⌝ }
     ensures { λ x. ⌜ x ≡ climbAnswer (cond (badClimb (now (index .entry)) rank) 15 0) (chain (now (index .entry)) rank) (filter (keepsAt (now (index .entry)) keep) (chain (now (index .entry)) rank)) (now (out .entry)) ⌝ }
     ensures { λ _. ⌜ now (out .exit) ≡ listOut (cond (badClimb (now (index .entry)) rank) 15 0) (filter (keepsAt (now (index .entry)) keep) (chain (now (index .entry)) rank)) (now (out .entry)) ⌝ }
 {
@@ -289,7 +287,6 @@ pub fn ancestors(index: &[u32], rank: u32, lo: i32, hi: i32, out: &mut [u32]) ->
         };
     }
     let r = rank as usize;
-    let at = 8 + 6 * (r - 1);
-    let base = image::level_of(index[at + 5]);
-    list_climb(index, r, Keep::Within(base, lo, hi), out)
+    let body = image::body_of(index, r);
+    list_climb(index, r, Keep::Within(body.level, lo, hi), out)
 }

@@ -9,7 +9,8 @@ use lib.IntN.{ℤ, pos}
 use borrow.Author.Tests.{eq-eqb, ne-eqb, ltb-false}
 use Rattle.lists.specs.Choice.{after, after-zero, cond-none}
 use Rattle.image.specs.Layout.{nodeCount, contentsRefusal}
-use Rattle.sums.specs.Sums.{fewTotals, totalsRefusal, sumAnswer, found}
+use Rattle.sums.specs.Sums.{fewTotals, totalsRefusal, sumAnswer}
+use Rattle.sums.specs.SumsLayer.{found}
 use Rattle.sums.specs.declared.Summed.{Summed}
 
 abbrev of : ℕ → ℤ → Summed

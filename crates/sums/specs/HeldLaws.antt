@@ -13,11 +13,11 @@ use borrow.Author.Tests.{eqb-false, ltb-false, le-ltb}
 use Rattle.lists.specs.Choice.{or-no, after}
 use Rattle.lists.specs.Members.{_∈_, sum, totalsFrom, sum-slice, totals-length, totals-at, sum-bound, take-in}
 use Rattle.image.specs.Layout.{nodeCount}
-use Rattle.image.specs.ImageLaws.{Holds, node-count-read, contents-hold, size-read}
+use Rattle.image.specs.ImageLaws.{HoldsImage, node-count-read, contents-hold, size-read}
 use Rattle.image.specs.declared.Body.{Body}
 use Rattle.navigate.specs.Navigate.{endOf, spanRefusal}
 use Rattle.navigate.specs.HeldLaws.{nth, Sized, noRank, span-held}
-use Rattle.sums.specs.Sums.{totalAt, fewTotals, totalsRefusal, beyond, sumAnswer, subtreeSum, subtreeAnswer}
+use Rattle.sums.specs.Sums.{totalAt, fewTotals, totalsRefusal, beyond, sumAnswer, spanSum, subtreeAnswer}
 
 -- the totals t begin with the running totals of f over l
 pub record HoldsTotals {A : Type 0} (f : A → ℤ) (l : List A) (t : List ℤ) : Type 0 where
@@ -47,7 +47,7 @@ module _ {A : Type 0} {f : A → ℤ} {l : List A} {t : List ℤ} (g : HoldsTota
         ap beyond (total-is k b)
         ∙ not-beyond (sum f (take k l)) (omega (arith, sum-bound f (take k l) (λ x m. small x (take-in k l x m)), length-take-le k l b))
 
-    module _ {s : List ℕ} {bs : List Body} (h : Holds s bs) (d : Body) (sized : Sized bs d) (same : length l ≡ length bs) where
+    module _ {s : List ℕ} {bs : List Body} (h : HoldsImage s bs) (d : Body) (sized : Sized bs d) (same : length l ≡ length bs) where
       pub totals-held : totalsRefusal s t ≡ 0
       totals-held =
           let n : nodeCount s ≡ length bs = node-count-read h in
@@ -78,7 +78,7 @@ module _ {A : Type 0} {f : A → ℤ} {l : List A} {t : List ℤ} (g : HoldsTota
               ap (λ (b : Bool). b || beyond (totalAt t (rank - 1))) (total-near (endOf s rank) end-le)
               ∙ total-near (rank - 1) (omega (arith, high))
 
-          sum-is : subtreeSum s t rank ≡ spanMinutes
+          sum-is : spanSum s t rank ≡ spanMinutes
           sum-is =
               ap (λ (z : ℤ). z -ℤ totalAt t (rank - 1)) (total-is (endOf s rank) end-le)
               ∙ ap (λ (z : ℤ). sum f (take (endOf s rank) l) -ℤ z) (total-is (rank - 1) (omega (arith, high)))
@@ -89,13 +89,13 @@ module _ {A : Type 0} {f : A → ℤ} {l : List A} {t : List ℤ} (g : HoldsTota
         pub subtree-held : subtreeAnswer s t rank ≡ sumAnswer (cond (noRank bs rank) 14 0) spanMinutes
         subtree-held =
             let far : ℕ = cond (beyond (totalAt t (endOf s rank)) || beyond (totalAt t (rank - 1))) 15 0 in
-            ap (λ (q : ℕ). sumAnswer (after (after q (spanRefusal s rank)) far) (subtreeSum s t rank)) totals-held
-            ∙ ap (λ (q : ℕ). sumAnswer (after (after 0 q) far) (subtreeSum s t rank)) (span-held h (omega arith) d sized rank)
+            ap (λ (q : ℕ). sumAnswer (after (after q (spanRefusal s rank)) far) (spanSum s t rank)) totals-held
+            ∙ ap (λ (q : ℕ). sumAnswer (after (after 0 q) far) (spanSum s t rank)) (span-held h (omega arith) d sized rank)
             ∙ go (noRank bs rank) refl
           where
             go : (b : Bool) → noRank bs rank ≡ b
-                → sumAnswer (after (after 0 (cond b 14 0)) (cond (beyond (totalAt t (endOf s rank)) || beyond (totalAt t (rank - 1))) 15 0)) (subtreeSum s t rank) ≡ sumAnswer (cond b 14 0) spanMinutes
+                → sumAnswer (after (after 0 (cond b 14 0)) (cond (beyond (totalAt t (endOf s rank)) || beyond (totalAt t (rank - 1))) 15 0)) (spanSum s t rank) ≡ sumAnswer (cond b 14 0) spanMinutes
             go true e = refl
             go false e =
-                ap (λ (b : Bool). sumAnswer (cond b 15 0) (subtreeSum s t rank)) (near e)
+                ap (λ (b : Bool). sumAnswer (cond b 15 0) (spanSum s t rank)) (near e)
                 ∙ ap (sumAnswer 0) (sum-is e)

@@ -36,15 +36,15 @@ abbrev pub sumAnswer : ℕ → ℤ → Summed
 sumAnswer refusal z = record { refusal = refusal; sum = cond (eqb refusal 0) z (pos 0) }
 
 -- subtree sum: the total at r + size - 1 less the total at r - 1
-abbrev pub subtreeSum : List ℕ → List ℤ → ℕ → ℤ
-subtreeSum s t rank = totalAt t (endOf s rank) -ℤ totalAt t (rank - 1)
+abbrev pub spanSum : List ℕ → List ℤ → ℕ → ℤ
+spanSum s t rank = totalAt t (endOf s rank) -ℤ totalAt t (rank - 1)
 
 abbrev pub subtreeRefusal : List ℕ → List ℤ → ℕ → ℕ
 subtreeRefusal s t rank =
     after (after (totalsRefusal s t) (spanRefusal s rank)) (cond (beyond (totalAt t (endOf s rank)) || beyond (totalAt t (rank - 1))) 15 0)
 
 abbrev pub subtreeAnswer : List ℕ → List ℤ → ℕ → Summed
-subtreeAnswer s t rank = sumAnswer (subtreeRefusal s t rank) (subtreeSum s t rank)
+subtreeAnswer s t rank = sumAnswer (subtreeRefusal s t rank) (spanSum s t rank)
 
 -- own minutes: the total at a rank less the total at the rank before
 abbrev pub ownMinutes : List ℤ → ℕ → ℤ
@@ -69,7 +69,3 @@ pathRefusal s t rank = after (after (totalsRefusal s t) (rankRefusal s rank)) (c
 
 abbrev pub pathAnswer : List ℕ → List ℤ → ℕ → Summed
 pathAnswer s t rank = sumAnswer (pathRefusal s t rank) (pathSum s t rank)
-
--- what the parts of a sum find: 15 where they are bad, else the sum
-abbrev pub found : Bool → ℤ → Summed
-found bad z = sumAnswer (cond bad 15 0) z

@@ -1,10 +1,12 @@
 // Sums over the running totals of an index image that anybody may have written.
 ghost use mathlib.Core.Path.{_≡_};
 ghost use mathlib.Core.Bool.{_||_};
-ghost use Prim.Native.Nat.{_+_, _*_, _≤_, _<_};
+ghost use Prim.Native.Nat.{_≤_, _<_};
 ghost use lib.IntN.{_-ℤ_};
 ghost use lib.ListN.{length};
-ghost use Rattle.sums.specs.Sums.{totalsRefusal, beyond, badTotals, found, badPath, pathSum, subtreeAnswer, pathAnswer};
+ghost use Rattle.image.specs.Layout.{bodiesEnd};
+ghost use Rattle.sums.specs.Sums.{totalsRefusal, beyond, badTotals, badPath, pathSum, subtreeAnswer, pathAnswer};
+ghost use Rattle.sums.specs.SumsLayer.{found};
 
 // The answer to a call that sums minutes.
 #[repr(C)]
@@ -75,8 +77,7 @@ pub fn subtree_sum(index: &[u32], totals: &[i64], rank: u32) -> Summed
         };
     }
     let r = rank as usize;
-    let at = 8 + 6 * (r - 1);
-    let size = index[at + 2] as usize;
+    let size = image::body_of(index, r).size as usize;
     let last = totals[r + size - 1];
     let first = totals[r - 1];
     difference(last, first)
@@ -112,14 +113,13 @@ fn own_minutes(last: i64, first: i64) -> Summed
 
 // Own minutes over a climb.
 fn climb_sum(index: &[u32], totals: &[i64], rank: usize) -> Summed
-    requires { ⌜ (1 ≤ rank) × (8 + 6 * rank ≤ length (now index)) × (rank < length (now totals)) × (rank ≤ 65535) ⌝ }
+    requires { ⌜ (1 ≤ rank) × (bodiesEnd rank ≤ length (now index)) × (rank < length (now totals)) × (rank ≤ 65535) ⌝ }
     ensures { λ x. ⌜ x ≡ found (badPath (now (index .entry)) (now (totals .entry)) rank) (pathSum (now (index .entry)) (now (totals .entry)) rank) ⌝ }
 {
     let mut k = rank;
     let mut sum: i64 = 0;
     while 0 < k {
-        let at = 8 + 6 * (k - 1);
-        let parent = index[at + 3] as usize;
+        let parent = image::body_of(index, k).parent as usize;
         if k <= parent {
             return Summed {
                 refusal: 15,

@@ -1,4 +1,4 @@
--- `index_check::bits_right` meets its contract: the shift and the mask are a quotient and a remainder. Assumes nothing.
+-- `bits_right` meets its contract, is safe and ends. Assumes nothing.
 use mathlib.Core.Path.{ap, _∙_}
 use Prim.Native.Nat.{ℕ, _/_, _%_, _^_}
 use lib.Dec.{eqb}
@@ -7,15 +7,18 @@ use borrow.Author.Needs.{needs}
 use Rattle.index_check.specs.IndexCheck.{bitsRight}
 use Rattle.index_check.proofs.bits_right.Statement.{statement}
 use Rattle.index_check.proofs.bits_right.Tie as tie
+use Rattle.index_check.proofs.bits_right.Reads as reads
+use Rattle.index_check.proofs.bits_right.Lts as lts
+use Rattle.image.proofs.word_at.Reads as word-at-reads
 
-word-requires : tie.Need-word-requires
-word-requires c κs = search needs
+word-at-requires : tie.Need-word-at-requires
+word-at-requires c κs = search needs
 
 returns : tie.Need-returns
 unfolding bitsRight
 returns c =
-    ap (λ (x : ℕ). eqb x 0) (and-mask (c .word .result / 65536) 14)
-    ∙ ap (λ (x : ℕ). eqb (x / 2 ^ 16 % 2 ^ 14) 0) (c .word .ensures)
+    ap (λ (x : ℕ). eqb x 0) (and-mask (c .word-at .result / 65536) 14)
+    ∙ ap (λ (x : ℕ). eqb (x / 2 ^ 16 % 2 ^ 14) 0) (c .word-at .ensures)
 
 pub bits-right-spec : {M : Type 1} → statement M
-bits-right-spec = tie.close (tie.spec word-requires returns)
+bits-right-spec = tie.close (tie.spec word-at-requires returns)

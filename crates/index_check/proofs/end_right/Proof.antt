@@ -1,14 +1,26 @@
--- `index_check::end_right` meets its contract. Assumes nothing.
-use mathlib.Core.Path.{sym, _∙_}
+-- `end_right` meets its contract, is safe and ends. Assumes nothing.
+use mathlib.Core.Path.{_≡_, sym, ap, _∙_}
 use native.Mathlib.Omega.{arith}
+use denote.Ref.{now}
 use borrow.Author.Tests.{eq-eqb, ne-eqb}
 use borrow.Author.Needs.{needs}
+use Rattle.image.specs.Layout.{sizeAt, parentAt}
+use Rattle.image.specs.declared.Body.{Body}
 use Rattle.index_check.specs.IndexCheck.{endRight}
 use Rattle.index_check.proofs.end_right.Statement.{statement}
 use Rattle.index_check.proofs.end_right.Tie as tie
+use Rattle.index_check.proofs.end_right.Reads as reads
+use Rattle.index_check.proofs.end_right.Lts as lts
+use Rattle.image.proofs.body_of.Reads as body-of-reads
 
-word-requires : tie.Need-word-requires
-word-requires c κs = search needs
+size : (c : tie.After-body-of) → c .body-of .result .size ≡ sizeAt (now (c .before .before .args .index)) (c .before .before .args .k)
+size c = ap (λ (b : Body). b .size) (c .body-of .ensures)
+
+parent : (c : tie.After-body-of) → c .body-of .result .parent ≡ parentAt (now (c .before .before .args .index)) (c .before .before .args .k)
+parent c = ap (λ (b : Body). b .parent) (c .body-of .ensures)
+
+body-of-requires : tie.Need-body-of-requires
+body-of-requires c κs = search needs
 
 cast-last : tie.Need-cast-last
 cast-last c = search needs
@@ -18,9 +30,6 @@ add-last c = search needs
 
 sub-last : tie.Need-sub-last
 sub-last c = search needs
-
-word-requires-2 : tie.Need-word-requires-2
-word-requires-2 c κs = search needs
 
 cast-parent : tie.Need-cast-parent
 cast-parent c = search needs
@@ -33,12 +42,10 @@ cast-result c = omega (arith, c .shared-slice-known2 .given 0)
 
 returns : tie.Need-returns
 unfolding endRight
-returns c =
-    let p = sym (c .before .before .word2 .ensures) ∙ c .before .if1 .taken in
-    simp (c .before .before .before .word .ensures, eq-eqb _ 0 p)
+returns c = simp (size (c .before .before .before .before), eq-eqb _ 0 (sym (parent (c .before .before .before .before)) ∙ c .before .if1 .taken))
 
-word-requires-3 : tie.Need-word-requires-3
-word-requires-3 c κs = search needs
+body-of-requires-2 : tie.Need-body-of-requires-2
+body-of-requires-2 c κs = omega (arith, parent (c .before .before .before), c .if1 .left, c .before .before .before .before .before .pre .below, c .before .before .before .before .before .pre .held)
 
 cast-result-2 : tie.Need-cast-result-2
 cast-result-2 c = search needs
@@ -52,23 +59,23 @@ sub-result c = search needs
 returns-2 : tie.Need-returns-2
 unfolding endRight
 returns-2 c =
-    let e = c .before .before .word2 .ensures in
-    simp (c .word3 .ensures, c .before .before .before .word .ensures, e, ne-eqb _ 0 (λ p. c .before .if1 .left (e ∙ p)))
+    let b = c .before .before .before .before .before in
+    let above : c .before .body-of2 .result .size ≡ sizeAt (now (b .before .before .args .index)) (b .body-of .result .parent) = ap (λ (x : Body). x .size) (c .before .body-of2 .ensures) in
+    simp (above, size b, parent b, ne-eqb _ 0 (λ p. c .before .before .if1 .left (parent b ∙ p)))
 
 pub end-right-spec : {M : Type 1} → statement M
 end-right-spec =
     tie.close
     (tie.spec
-    word-requires
+    body-of-requires
     cast-last
     add-last
     sub-last
-    word-requires-2
     cast-parent
     shared-slice-read-result
     cast-result
     returns
-    word-requires-3
+    body-of-requires-2
     cast-result-2
     add-result
     sub-result

@@ -1,4 +1,4 @@
--- `index_check::index_check` meets its contract. Assumes nothing.
+-- `index_check` meets its contract, is safe and ends. Assumes nothing.
 use mathlib.Core.Path.{_≡_, refl, sym, _∙_}
 use mathlib.Core.Bool.{true, false, and-false}
 use native.Mathlib.Omega.{arith}
@@ -11,6 +11,12 @@ use Rattle.index_check.specs.IndexCheck.{zerosRight, checkRight, accepts
 use Rattle.index_check.specs.RankLaws.{contents-some}
 use Rattle.index_check.proofs.index_check.Statement.{statement}
 use Rattle.index_check.proofs.index_check.Tie as tie
+use Rattle.index_check.proofs.index_check.Reads as reads
+use Rattle.index_check.proofs.index_check.Lts as lts
+use Rattle.image.proofs.contents_refusal.Reads as contents-refusal-reads
+use Rattle.index_check.proofs.check_right.Reads as check-right-reads
+use Rattle.index_check.proofs.ranks_right.Reads as ranks-right-reads
+use Rattle.index_check.proofs.zeros_right.Reads as zeros-right-reads
 
 good : (c : tie.Else1) → badContents (now (c .before .before .before .args .index)) ≡ false
 good c = contents-of _ (sym (c .before .contents-refusal .ensures) ∙ c .if1 .left)
@@ -34,9 +40,6 @@ returns c = simp (contents-some _ (λ e. c .if1 .taken (c .before .contents-refu
 shared-slice-read-n : tie.Need-shared-slice-read-n
 shared-slice-read-n c = omega (arith, ok (c .before))
 
-cast-n : tie.Need-cast-n
-cast-n c = omega (arith, c .shared-slice-known2 .given 0)
-
 zeros-right-requires : tie.Need-zeros-right-requires
 zeros-right-requires c κs = ok (c .before) .long
 
@@ -50,6 +53,9 @@ check-right-requires c κs = let h = ok (c .before .before .before) in (refl, h 
 returns-3 : tie.Need-returns-3
 unfolding accepts
 returns-3 c = simp (sym (c .before .check-right .ensures) ∙ not-true _ (c .if3 .taken), and-false)
+
+cast-ranks-right : tie.Need-cast-ranks-right
+cast-ranks-right c = omega (arith, ok (c .before .before .before .before .before) .few)
 
 ranks-right-requires : tie.Need-ranks-right-requires
 ranks-right-requires c κs = let h = ok (c .before .before .before .before .before) in (h .few, h .room)
@@ -65,10 +71,10 @@ index-check-spec =
     contents-refusal-requires
     returns
     shared-slice-read-n
-    cast-n
     zeros-right-requires
     returns-2
     check-right-requires
     returns-3
+    cast-ranks-right
     ranks-right-requires
     returns-4)

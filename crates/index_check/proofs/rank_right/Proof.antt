@@ -5,7 +5,8 @@ use denote.Ref.{now}
 use borrow.Author.Tests.{not-true, not-false}
 use borrow.Author.Needs.{needs}
 use Rattle.index_check.specs.IndexCheck.{sizeRight, endRight, parentRight, levelRight, rootRight, rankRight}
-use Rattle.index_check.specs.RankLaws.{Linked, parent-below}
+use Rattle.index_check.specs.RankLaws.{parent-below}
+use Rattle.index_check.specs.IndexCheckLayer.{ParentBelow}
 use Rattle.index_check.proofs.rank_right.Statement.{statement}
 use Rattle.index_check.proofs.rank_right.Tie as tie
 
@@ -25,7 +26,7 @@ level-yes c = sym (c .before .level-right .ensures) ∙ not-false _ (c .if4 .lef
 root-yes : (c : tie.Else5) → rootRight (now (c .before .before .before .before .before .before .before .before .before .before .before .args .index)) (c .before .before .before .before .before .before .before .before .before .before .before .args .k) ≡ true
 root-yes c = sym (c .before .root-right .ensures) ∙ not-false _ (c .if5 .left)
 
-linked : (c : tie.Else2) → Linked (now (c .before .before .before .before .before .args .index)) (c .before .before .before .before .before .args .k)
+linked : (c : tie.Else2) → ParentBelow (now (c .before .before .before .before .before .args .index)) (c .before .before .before .before .before .args .k)
 linked c =
     let a = c .before .before .before .before .before in
     record { held = a .pre .held; below = parent-below (now (a .args .index)) (a .args .k) (a .pre .held .low) (parent-yes c) }

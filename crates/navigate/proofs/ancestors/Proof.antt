@@ -7,9 +7,11 @@ use mathlib.Core.Path.{_≡_, sym, ap, _∙_}
 use borrow.Author.Needs.{needs}
 use Rattle.lists.specs.Members.{filter}
 use Rattle.lists.specs.Choice.{after-none}
-use Rattle.navigate.specs.Navigate.{rankRefusal, keepsAt, listOut}
+use Rattle.image.specs.declared.Body.{Body}
+use Rattle.navigate.specs.Navigate.{rankRefusal, listOut}
 use Rattle.navigate.specs.NavigateLaws.{Ranked, ranked}
 use Rattle.navigate.specs.Climb.{chain, badClimb, climbAnswer, ancestorList}
+use Rattle.navigate.specs.NavigateLayer.{keepsAt}
 use Rattle.navigate.specs.declared.Climbed.{Climbed}
 use Rattle.navigate.specs.declared.Keep.{Keep}
 use Rattle.navigate.proofs.Lists.{climb-refused}
@@ -18,7 +20,7 @@ use Rattle.navigate.proofs.ancestors.Statement.{statement}
 use Rattle.navigate.proofs.ancestors.Tie as tie
 use Rattle.navigate.proofs.ancestors.Reads as reads
 use Rattle.navigate.proofs.ancestors.Lts as lts
-use Rattle.image.proofs.level_of.Reads as level-of-reads
+use Rattle.image.proofs.body_of.Reads as body-of-reads
 use Rattle.navigate.proofs.list_climb.Reads as list-climb-reads
 use Rattle.navigate.proofs.rank_refusal.Reads as rank-refusal-reads
 
@@ -42,43 +44,25 @@ returns c =
     let a = climb-refused (rankRefusal s (x .rank)) (cond (badClimb s (x .rank)) 15 0) (chain s (x .rank)) (ancestorList s (x .rank) (x .lo) (x .hi)) (now (x .out)) (λ z. c .if1 .taken (e ∙ z)) in
     (ap refused e ∙ a .0, a .1)
 
-sub-at : tie.Need-sub-at
-sub-at c = omega (arith, ok c)
-
-mul-at : tie.Need-mul-at
-mul-at c = search needs
-
-add-at : tie.Need-add-at
-add-at c = search needs
-
-add-level-of : tie.Need-add-level-of
-add-level-of c = search needs
-
-mul-level-of : tie.Need-mul-level-of
-mul-level-of c = search needs
-
-shared-slice-read-level-of : tie.Need-shared-slice-read-level-of
-shared-slice-read-level-of c = omega (arith, ok (c .before), ok (c .before) .held)
-
-level-of-requires : tie.Need-level-of-requires
-level-of-requires c κs = search needs
+body-of-requires : tie.Need-body-of-requires
+body-of-requires c κs = omega (arith, ok c, ok c .held)
 
 list-climb-requires : tie.Need-list-climb-requires
-list-climb-requires c κs = omega (arith, ok (c .before .before .before), ok (c .before .before .before) .held)
+list-climb-requires c κs = omega (arith, ok (c .before .before), ok (c .before .before) .held)
 
 same-length : tie.Need-same-length
 same-length c = search needs
 
 returns-2 : tie.Need-returns-2
 returns-2 c =
-    let e = c .before .before .before .before .before .before in
+    let e = c .before .before .before .before .before in
     let x = e .before .before .before .before .args in
     let s = now (x .index) in
     let r = chain s (x .rank) in
     let q : ℕ = cond (badClimb s (x .rank)) 15 0 in
     let n = after-none (rankRefusal s (x .rank)) q (none e) in
     let p = c .before .before .list-climb .ensures in
-    let k = within-eq (c .before .before .before .before .level-of .ensures) (e .before .before .before .before .fits .lo) (e .before .before .before .before .fits .hi) in (
+    let k = within-eq (ap (λ (b : Body). b .level) (c .before .before .before .before .body-of .ensures)) (e .before .before .before .before .fits .lo) (e .before .before .before .before .fits .hi) in (
       p .0
           ∙ ap (λ (b : Keep). climbAnswer q r (filter (keepsAt s b) r) (now (x .out))) k
           ∙ ap (λ (y : ℕ). climbAnswer y r (ancestorList s (x .rank) (x .lo) (x .hi)) (now (x .out))) n,
@@ -93,13 +77,7 @@ ancestors-spec =
     (tie.spec
     rank-refusal-requires
     returns
-    sub-at
-    mul-at
-    add-at
-    add-level-of
-    mul-level-of
-    shared-slice-read-level-of
-    level-of-requires
+    body-of-requires
     list-climb-requires
     same-length
     returns-2)

@@ -9,7 +9,7 @@ use denote.Ref.{now}
 use borrow.Author.Needs.{needs}
 use Rattle.lists.specs.Members.{filter, numbers}
 use Rattle.lists.specs.Choice.{count-yes, count-no, count-le}
-use Rattle.navigate.specs.Navigate.{keepsAt}
+use Rattle.navigate.specs.NavigateLayer.{keepsAt}
 use Rattle.navigate.proofs.count_kept.Statement.{statement}
 use Rattle.navigate.proofs.count_kept.Tie as tie
 use Rattle.navigate.proofs.count_kept.Reads as reads

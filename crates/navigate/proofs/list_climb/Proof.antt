@@ -3,8 +3,8 @@ use denote.Ref.{now}
 use native.Mathlib.Omega.{arith}
 use borrow.Author.Needs.{needs}
 use Rattle.lists.specs.Members.{filter}
-use Rattle.navigate.specs.Navigate.{keepsAt}
 use Rattle.navigate.specs.Climb.{chain, badClimb}
+use Rattle.navigate.specs.NavigateLayer.{keepsAt}
 use Rattle.navigate.proofs.Lists.{climb-stuck, climb-open, climb-long, climb-fits}
 use Rattle.navigate.proofs.list_climb.Statement.{statement}
 use Rattle.navigate.proofs.list_climb.Tie as tie

@@ -3,7 +3,11 @@ use Prim.Native.Nat.{ℕ}
 use denote.Ref.{now}
 use native.Mathlib.Omega.{arith}
 use mathlib.Core.Path.{_≡_, sym, ap, _∙_}
+use lib.Dec.{eqb}
 use borrow.Author.Needs.{needs}
+use Rattle.lists.specs.Members.{filter, numbers}
+use Rattle.image.specs.Layout.{nodeCount, parentAt}
+use Rattle.image.specs.declared.Body.{Body}
 use Rattle.navigate.specs.Navigate.{rankRefusal, siblingList, listAnswer, listOut}
 use Rattle.navigate.specs.NavigateLaws.{Ranked, ranked}
 use Rattle.navigate.specs.declared.Listed.{Listed}
@@ -12,6 +16,7 @@ use Rattle.navigate.proofs.siblings.Statement.{statement}
 use Rattle.navigate.proofs.siblings.Tie as tie
 use Rattle.navigate.proofs.siblings.Reads as reads
 use Rattle.navigate.proofs.siblings.Lts as lts
+use Rattle.image.proofs.body_of.Reads as body-of-reads
 use Rattle.navigate.proofs.list_kept.Reads as list-kept-reads
 use Rattle.navigate.proofs.rank_refusal.Reads as rank-refusal-reads
 
@@ -40,23 +45,8 @@ shared-slice-read-n c = omega (arith, ok (c .before), ok (c .before) .held)
 cast-n : tie.Need-cast-n
 cast-n c = omega (arith, c .shared-slice-known2 .given 0)
 
-sub-at : tie.Need-sub-at
-sub-at c = omega (arith, ok (c .before))
-
-mul-at : tie.Need-mul-at
-mul-at c = search needs
-
-add-at : tie.Need-add-at
-add-at c = search needs
-
-add-parent : tie.Need-add-parent
-add-parent c = search needs
-
-mul-parent : tie.Need-mul-parent
-mul-parent c = search needs
-
-shared-slice-read-parent : tie.Need-shared-slice-read-parent
-shared-slice-read-parent c = omega (arith, ok (c .before .before), ok (c .before .before) .held)
+body-of-requires : tie.Need-body-of-requires
+body-of-requires c κs = omega (arith, ok (c .before), ok (c .before) .held)
 
 list-kept-requires : tie.Need-list-kept-requires
 list-kept-requires c κs = omega (arith, ok (c .before .before .before), ok (c .before .before .before) .held)
@@ -69,9 +59,15 @@ unfolding siblingList
 returns-2 c =
     let e = c .before .before .before .before .before .before in
     let x = e .before .before .before .before .args in
-    let p = c .before .before .list-kept .ensures in (
-      p .0 ∙ ap (λ (q : ℕ). listAnswer q (siblingList (now (x .index)) (x .rank)) (now (x .out))) (sym (none e)),
-      p .1 ∙ ap (λ (q : ℕ). listOut q (siblingList (now (x .index)) (x .rank)) (now (x .out))) (sym (none e)),
+    let s = now (x .index) in
+    let p = c .before .before .list-kept .ensures in
+    let b = c .before .before .before .before .body-of .ensures in (
+      p .0
+          ∙ ap (λ (b : Body). listAnswer 0 (filter (λ k. eqb (parentAt s k) (b .parent)) (numbers 1 (nodeCount s))) (now (x .out))) b
+          ∙ ap (λ (q : ℕ). listAnswer q (siblingList s (x .rank)) (now (x .out))) (sym (none e)),
+      p .1
+          ∙ ap (λ (b : Body). listOut 0 (filter (λ k. eqb (parentAt s k) (b .parent)) (numbers 1 (nodeCount s))) (now (x .out))) b
+          ∙ ap (λ (q : ℕ). listOut q (siblingList s (x .rank)) (now (x .out))) (sym (none e)),
     )
 
 pub siblings-spec : {M : Type 1} → statement M
@@ -82,12 +78,7 @@ siblings-spec =
     returns
     shared-slice-read-n
     cast-n
-    sub-at
-    mul-at
-    add-at
-    add-parent
-    mul-parent
-    shared-slice-read-parent
+    body-of-requires
     list-kept-requires
     same-length
     returns-2)

@@ -1,18 +1,22 @@
 -- `span` meets its contract, is safe and ends. Assumes nothing.
 use borrow.Author.Tests.{eq-eqb, ne-eqb}
 use lib.ListN.{take, drop}
-use Prim.Native.Nat.{ℕ, _+_, _*_, _-_}
+use Prim.Native.Nat.{ℕ, _*_, _-_}
 use denote.Ref.{now}
 use native.Mathlib.Omega.{arith}
 use mathlib.Core.Path.{_≡_, sym, ap, _∙_}
 use borrow.Author.Needs.{needs}
-use Rattle.image.specs.Layout.{bodyAt, sizeAt}
+use Rattle.image.specs.Layout.{sizeAt}
+use Rattle.image.specs.declared.Body.{Body}
 use Rattle.navigate.specs.Navigate.{spanRefusal}
 use Rattle.navigate.specs.NavigateLaws.{Span, span}
 use Rattle.navigate.proofs.span.Statement.{statement}
 use Rattle.navigate.proofs.span.Tie as tie
 use Rattle.navigate.proofs.span.Reads as reads
 use Rattle.navigate.proofs.span.Lts as lts
+use Rattle.image.proofs.bodies_end.Reads as bodies-end-reads
+use Rattle.image.proofs.body_at.Reads as body-at-reads
+use Rattle.image.proofs.body_of.Reads as body-of-reads
 use Rattle.navigate.proofs.span_refusal.Reads as span-refusal-reads
 
 none : (c : tie.Else1) → spanRefusal (now (c .before .before .before .args .index)) (c .before .before .before .args .rank) ≡ 0
@@ -36,38 +40,20 @@ part-result-end c = search needs
 returns : tie.Need-returns
 returns c = simp (ne-eqb (spanRefusal (now (c .before .before .before .before .args .index)) (c .before .before .before .before .args .rank)) 0 (λ z. c .before .if1 .taken (c .before .before .span-refusal .ensures ∙ z)))
 
-sub-at : tie.Need-sub-at
-sub-at c = omega (arith, ok c)
+body-of-requires : tie.Need-body-of-requires
+body-of-requires c κs = omega (arith, ok c, ok c .held)
 
-mul-at : tie.Need-mul-at
-mul-at c = search needs
+body-at-requires : tie.Need-body-at-requires
+body-at-requires c κs = search needs
 
-add-at : tie.Need-add-at
-add-at c = search needs
+add-bodies-end : tie.Need-add-bodies-end
+add-bodies-end c = omega (arith, ok (c .before .before .before), ok (c .before .before .before) .held, ap (λ (b : Body). b .size) (c .before .before .body-of .ensures))
 
-add-size : tie.Need-add-size
-add-size c = search needs
+sub-bodies-end : tie.Need-sub-bodies-end
+sub-bodies-end c = omega (arith, ok (c .before .before .before))
 
-mul-size : tie.Need-mul-size
-mul-size c = search needs
-
-shared-slice-read-size : tie.Need-shared-slice-read-size
-shared-slice-read-size c = omega (arith, ok (c .before), ok (c .before) .held)
-
-cast-size : tie.Need-cast-size
-cast-size c = omega (arith, c .shared-slice-known2 .given (8 + 6 * (c .before .before .before .before .args .rank - 1) + 2))
-
-add-last : tie.Need-add-last
-add-last c = omega (arith, ok (c .before))
-
-sub-last : tie.Need-sub-last
-sub-last c = omega (arith, ok (c .before))
-
-mul-end : tie.Need-mul-end
-mul-end c = omega (arith, ok (c .before), ok (c .before) .held)
-
-add-end : tie.Need-add-end
-add-end c = omega (arith, ok (c .before), ok (c .before) .held)
+bodies-end-requires : tie.Need-bodies-end-requires
+bodies-end-requires c κs = search needs
 
 mul-result : tie.Need-mul-result
 mul-result c = search needs
@@ -79,15 +65,16 @@ part-result-start-2 : tie.Need-part-result-start-2
 part-result-start-2 c = search needs
 
 part-result-end-2 : tie.Need-part-result-end-2
-part-result-end-2 c = omega (arith, ok (c .before), ok (c .before) .held)
+part-result-end-2 c = omega (arith, ok (c .before .before .before .before), ok (c .before .before .before .before) .held, ap (λ (b : Body). b .size) (c .before .before .before .body-of .ensures), c .bodies-end .ensures)
 
 returns-2 : tie.Need-returns-2
 returns-2 c =
-    let e = c .before .before in
+    let e = c .before .before .before .before .before in
     let x = e .before .before .before .args in
     let s = now (x .index) in
-    let m : 8 + 6 * (x .rank + sizeAt s (x .rank) - 1) - bodyAt (x .rank) ≡ 6 * sizeAt s (x .rank) = omega (arith, ok e) in
-    simp (eq-eqb (spanRefusal s (x .rank)) 0 (none e)) (ap (λ (m : ℕ). take m (drop (bodyAt (x .rank)) s)) m)
+    let at = c .before .before .before .body-at in
+    let m : c .before .bodies-end .result - at .result ≡ 6 * sizeAt s (x .rank) = omega (arith, ok e, ap (λ (b : Body). b .size) (c .before .before .before .before .body-of .ensures), c .before .bodies-end .ensures, at .ensures) in
+    simp (eq-eqb (spanRefusal s (x .rank)) 0 (none e)) (ap (λ (m : ℕ). take m (drop (at .result) s)) m ∙ ap (λ (a : ℕ). take (6 * sizeAt s (x .rank)) (drop a s)) (at .ensures))
 
 pub span-spec : {M : Type 1} → statement M
 span-spec =
@@ -98,17 +85,11 @@ span-spec =
     part-result-start
     part-result-end
     returns
-    sub-at
-    mul-at
-    add-at
-    add-size
-    mul-size
-    shared-slice-read-size
-    cast-size
-    add-last
-    sub-last
-    mul-end
-    add-end
+    body-of-requires
+    body-at-requires
+    add-bodies-end
+    sub-bodies-end
+    bodies-end-requires
     mul-result
     sub-result-2
     part-result-start-2

@@ -2,23 +2,26 @@
 use mathlib.Core.Path.{_≡_, refl, sym, ap, _∙_}
 use mathlib.Core.Bool.{Bool, false}
 use mathlib.Core.List.{List, _∷_}
-use Prim.Native.Nat.{ℕ, _+_, _*_, _-_, _≤_, _<_}
+use Prim.Native.Nat.{ℕ, _≤_, _<_}
 use native.Mathlib.Omega.{arith}
+use borrow.Author.Needs.{needs}
 use lib.ListN.{length, take, drop, set, length-drop}
 use lib.Seq.{length-take-le, take-length}
 use denote.Ref.{now}
 use Rattle.lists.specs.Members.{filter}
 use Rattle.lists.specs.Choice.{filter-yes, filter-no}
+use Rattle.lists.specs.Stores.{front, length-front}
 use Rattle.image.specs.Layout.{parentAt}
-use Rattle.navigate.specs.Navigate.{keepsAt}
+use Rattle.image.specs.declared.Body.{Body}
 use Rattle.navigate.specs.Climb.{chain, badClimb}
 use Rattle.navigate.specs.ClimbLaws.{chain-step, stuck-step, goes-down, chain-done}
+use Rattle.navigate.specs.NavigateLayer.{keepsAt}
 use Rattle.navigate.proofs.Lists.{left-room, drop-step, write-step}
-use Rattle.lists.specs.Stores.{front, length-front}
 use Rattle.navigate.proofs.write_climb.Statement.{statement}
 use Rattle.navigate.proofs.write_climb.Tie as tie
 use Rattle.navigate.proofs.write_climb.Reads as reads
 use Rattle.navigate.proofs.write_climb.Lts as lts
+use Rattle.image.proofs.body_of.Reads as body-of-reads
 use Rattle.navigate.proofs.keeps.Reads as keeps-reads
 
 abbrev Inv-loop : tie.InvT-loop
@@ -53,45 +56,33 @@ kept-length l =
 down : (c : tie.In-loop Inv-loop μ-loop) → parentAt (S (c .before)) (c .before .loop .k) < c .before .loop .k
 down c = goes-down (S (c .before)) (c .before .loop .k) (c .loop-test .taken) (c .before .loop .inv .1)
 
--- what is left of the list begins with a rank that is kept
-next : (c : tie.Then1 Inv-loop μ-loop) → let l = c .before .before .before .before in
+-- what is left of the list, with the rank taken off that the climb has come to
+step : (c : tie.In-loop Inv-loop μ-loop) → let l = c .before in drop (l .loop .n) (W l) ≡ filter (F l) (l .loop .k ∷ chain (S l) (parentAt (S l) (l .loop .k)))
+step c =
+    let l = c .before in
+    l .loop .inv .2 ∙ ap (filter (F l)) (chain-step (S l) (l .loop .k) (c .loop-test .taken) (down c))
+
+-- it begins with a rank that is kept
+next : (c : tie.Then1 Inv-loop μ-loop) → let l = c .before .before .before .before .before in
     drop (l .loop .n) (W l) ≡ l .loop .k ∷ filter (F l) (chain (S l) (parentAt (S l) (l .loop .k)))
 next c =
-    let i = c .before .before .before in
-    let l = i .before in
-    l .loop .inv .2
-    ∙ ap (filter (F l)) (chain-step (S l) (l .loop .k) (i .loop-test .taken) (down i))
-    ∙ filter-yes (F l) (l .loop .k) (chain (S l) (parentAt (S l) (l .loop .k))) (sym (c .before .keeps .ensures) ∙ c .if1 .taken)
+    let l = c .before .before .before .before .before in
+    step (c .before .before .before .before) ∙ filter-yes (F l) (l .loop .k) (chain (S l) (parentAt (S l) (l .loop .k))) (sym (c .before .keeps .ensures) ∙ c .if1 .taken)
 
-room : (c : tie.Then1 Inv-loop μ-loop) → let l = c .before .before .before .before in l .loop .n < length (W l)
+room : (c : tie.Then1 Inv-loop μ-loop) → let l = c .before .before .before .before .before in l .loop .n < length (W l)
 room c =
-    let l = c .before .before .before .before in
+    let l = c .before .before .before .before .before in
     left-room (W l) (l .loop .n) (l .loop .k) _ (next c)
 
 loop-holds : tie.Need-loop-holds Inv-loop μ-loop
 unfolding front
 loop-holds c = (omega arith, c .before .before .pre .0 .3, refl, omega arith, refl)
 
-sub-at : tie.Need-sub-at Inv-loop μ-loop
-sub-at c = omega arith
-
-mul-at : tie.Need-mul-at Inv-loop μ-loop
-mul-at c = omega arith
-
-add-at : tie.Need-add-at Inv-loop μ-loop
-add-at c = omega arith
-
-add-parent : tie.Need-add-parent Inv-loop μ-loop
-add-parent c = omega arith
-
-mul-parent : tie.Need-mul-parent Inv-loop μ-loop
-mul-parent c = omega arith
-
-shared-slice-read-parent : tie.Need-shared-slice-read-parent Inv-loop μ-loop
-shared-slice-read-parent c = omega arith
+body-of-requires : tie.Need-body-of-requires Inv-loop μ-loop
+body-of-requires c κs = omega arith
 
 cast-parent : tie.Need-cast-parent Inv-loop μ-loop
-cast-parent c = omega (arith, c .shared-slice-known2 .given (8 + 6 * (c .before .before .loop .k - 1) + 3))
+cast-parent c = search needs
 
 keeps-requires : tie.Need-keeps-requires Inv-loop μ-loop
 keeps-requires c κs = omega arith
@@ -100,43 +91,45 @@ cast-out : tie.Need-cast-out Inv-loop μ-loop
 cast-out c = omega arith
 
 mul-out : tie.Need-mul-out Inv-loop μ-loop
-mul-out c = omega (arith, room c, c .before .before .before .before .before .before .before .pre .1)
+mul-out c = omega (arith, room c, c .before .before .before .before .before .before .before .before .pre .1)
 
 slice-write-out : tie.Need-slice-write-out Inv-loop μ-loop
-slice-write-out c = omega (arith, room c, c .before .before .before .before .before .before .before .pre .1, kept-length (c .before .before .before .before))
+slice-write-out c = omega (arith, room c, c .before .before .before .before .before .before .before .before .pre .1, kept-length (c .before .before .before .before .before))
 
 add-n : tie.Need-add-n Inv-loop μ-loop
-add-n c = omega (arith, room c, c .before .before .before .before .before .before .before .pre .1)
+add-n c = omega (arith, room c, c .before .before .before .before .before .before .before .before .pre .1)
 
 loop-less : tie.Need-loop-less Inv-loop μ-loop
-loop-less c = down (c .before .before .before)
+loop-less c = omega (arith, down (c .before .before .before .before), ap (λ (b : Body). b .parent) (c .before .before .before .body-of .ensures))
 
 loop-again : tie.Need-loop-again Inv-loop μ-loop
 loop-again c =
-    let i = c .before .before .before in
-    let l = i .before in
+    let l = c .before .before .before .before .before in
     let o = now (l .before .before .before .args .out) in
     let n = l .loop .n in
-    let k = l .loop .k in (
-      omega (arith, down i, l .loop .inv .0),
-      sym (stuck-step (S l) k (i .loop-test .taken) (down i)) ∙ l .loop .inv .1,
-      drop-step (W l) n k _ (next c),
+    let k = l .loop .k in
+    let q = ap (λ (b : Body). b .parent) (c .before .before .before .body-of .ensures) in (
+      omega (arith, down (c .before .before .before .before), q, l .loop .inv .0),
+      ap (badClimb (S l)) q ∙ sym (stuck-step (S l) k (c .before .before .before .before .loop-test .taken) (down (c .before .before .before .before))) ∙ l .loop .inv .1,
+      drop-step (W l) n k _ (next c) ∙ ap (λ (p : ℕ). filter (F l) (chain (S l) p)) (sym q),
       omega (arith, room c),
       ap (λ (t : List ℕ). set t n k) (l .loop .inv .4)
           ∙ write-step (W l) n k _ (next c) o (omega (arith, room c, l .before .before .before .pre .1)),
     )
 
 loop-less-2 : tie.Need-loop-less-2 Inv-loop μ-loop
-loop-less-2 c = down (c .before .before .before)
+loop-less-2 c = omega (arith, down (c .before .before .before .before), ap (λ (b : Body). b .parent) (c .before .before .before .body-of .ensures))
 
 loop-again-2 : tie.Need-loop-again-2 Inv-loop μ-loop
 loop-again-2 c =
-    let i = c .before .before .before in
-    let l = i .before in
-    let k = l .loop .k in (
-      omega (arith, down i, l .loop .inv .0),
-      sym (stuck-step (S l) k (i .loop-test .taken) (down i)) ∙ l .loop .inv .1,
-      l .loop .inv .2 ∙ ap (filter (F l)) (chain-step (S l) k (i .loop-test .taken) (down i)) ∙ filter-no (F l) k (chain (S l) (parentAt (S l) k)) (sym (c .before .keeps .ensures) ∙ c .if1 .left),
+    let l = c .before .before .before .before .before in
+    let k = l .loop .k in
+    let q = ap (λ (b : Body). b .parent) (c .before .before .before .body-of .ensures) in (
+      omega (arith, down (c .before .before .before .before), q, l .loop .inv .0),
+      ap (badClimb (S l)) q ∙ sym (stuck-step (S l) k (c .before .before .before .before .loop-test .taken) (down (c .before .before .before .before))) ∙ l .loop .inv .1,
+      step (c .before .before .before .before)
+          ∙ filter-no (F l) k (chain (S l) (parentAt (S l) k)) (sym (c .before .keeps .ensures) ∙ c .if1 .left)
+          ∙ ap (λ (p : ℕ). filter (F l) (chain (S l) p)) (sym q),
       l .loop .inv .3,
       l .loop .inv .4,
     )
@@ -159,12 +152,7 @@ write-climb-spec =
     Inv-loop
     μ-loop
     loop-holds
-    sub-at
-    mul-at
-    add-at
-    add-parent
-    mul-parent
-    shared-slice-read-parent
+    body-of-requires
     cast-parent
     keeps-requires
     cast-out

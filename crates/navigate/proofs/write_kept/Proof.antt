@@ -11,7 +11,7 @@ use denote.Ref.{now}
 use Rattle.lists.specs.Members.{filter, numbers}
 use Rattle.lists.specs.Choice.{count-yes, count-no, count-mono, count-room, passed-yes, passed-no}
 use Rattle.lists.specs.Stores.{front, front-push, length-front}
-use Rattle.navigate.specs.Navigate.{keepsAt}
+use Rattle.navigate.specs.NavigateLayer.{keepsAt}
 use Rattle.navigate.proofs.write_kept.Statement.{statement}
 use Rattle.navigate.proofs.write_kept.Tie as tie
 use Rattle.navigate.proofs.write_kept.Reads as reads

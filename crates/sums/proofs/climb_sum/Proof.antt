@@ -2,7 +2,7 @@
 use mathlib.Core.Path.{_≡_, refl, sym, ap, _∙_, subst}
 use mathlib.Core.Bool.{Bool, false, _||_}
 use mathlib.Core.List.{List}
-use Prim.Native.Nat.{ℕ, _+_, _*_, _-_, _≤_}
+use Prim.Native.Nat.{ℕ, _+_, _*_, _-_, _≤_, _<_}
 use native.Mathlib.Omega.{arith}
 use lib.IntN.{ℤ, pos, _+ℤ_, _-ℤ_, +ℤ-idl, +ℤ-idr}
 use lib.Signed.{mag}
@@ -13,15 +13,18 @@ use denote.Ref.{now}
 use borrow.Author.Needs.{needs}
 use Rattle.lists.specs.Members.{any, sum}
 use Rattle.image.specs.Layout.{parentAt}
+use Rattle.image.specs.declared.Body.{Body}
 use Rattle.navigate.specs.Climb.{chain, badClimb}
 use Rattle.navigate.specs.ClimbLaws.{chain-step, stuck-step, stuck-bad, chain-done, stuck-done}
-use Rattle.sums.specs.Sums.{totalAt, ownMinutes, badTotals, badOwn, found}
+use Rattle.sums.specs.Sums.{totalAt, ownMinutes, badTotals, badOwn}
+use Rattle.sums.specs.SumsLayer.{found}
 use Rattle.sums.proofs.Answers.{found-first, found-second, found-sum, found-refused, found-fine}
 use Rattle.sums.proofs.Totals.{own-mag, sum-step, sum-mag}
 use Rattle.sums.proofs.climb_sum.Statement.{statement}
 use Rattle.sums.proofs.climb_sum.Tie as tie
 use Rattle.sums.proofs.climb_sum.Reads as reads
 use Rattle.sums.proofs.climb_sum.Lts as lts
+use Rattle.image.proofs.body_of.Reads as body-of-reads
 use Rattle.sums.proofs.own_minutes.Reads as own-minutes-reads
 
 abbrev Inv-loop : tie.InvT-loop
@@ -42,7 +45,14 @@ abbrev Tt : tie.At-loop Inv-loop μ-loop → List ℤ
 Tt l = now (l .before .before .args .totals)
 
 abbrev Loop : tie.After-own-minutes Inv-loop μ-loop → tie.At-loop Inv-loop μ-loop
-Loop o = o .before .before .before .before .before .before
+Loop o = o .before .before .before .before .before .before .before
+
+parent : (c : tie.After-body-of Inv-loop μ-loop) → c .body-of .result .parent ≡ parentAt (S (c .before .before)) (c .before .before .loop .k)
+parent c = ap (λ (b : Body). b .parent) (c .body-of .ensures)
+
+-- the parent is below, where the climb goes on
+below : (c : tie.Else1 Inv-loop μ-loop) → parentAt (S (c .before .before .before .before)) (c .before .before .before .before .loop .k) < c .before .before .before .before .loop .k
+below c = omega (arith, parent (c .before .before), c .if1 .left)
 
 -- what the call finds, of the totals themselves
 own : (o : tie.After-own-minutes Inv-loop μ-loop) → o .own-minutes .result ≡ found (badOwn (Tt (Loop o)) (Loop o .loop .k)) (ownMinutes (Tt (Loop o)) (Loop o .loop .k))
@@ -80,31 +90,16 @@ safe c = record { sfits = omega (arith, step c, Loop (c .before .before) .before
 loop-holds : tie.Need-loop-holds Inv-loop μ-loop
 loop-holds c = (omega arith, refl, refl, +ℤ-idl _, omega arith)
 
-sub-at : tie.Need-sub-at Inv-loop μ-loop
-sub-at c = omega arith
-
-mul-at : tie.Need-mul-at Inv-loop μ-loop
-mul-at c = omega arith
-
-add-at : tie.Need-add-at Inv-loop μ-loop
-add-at c = omega arith
-
-add-parent : tie.Need-add-parent Inv-loop μ-loop
-add-parent c = omega arith
-
-mul-parent : tie.Need-mul-parent Inv-loop μ-loop
-mul-parent c = omega arith
-
-shared-slice-read-parent : tie.Need-shared-slice-read-parent Inv-loop μ-loop
-shared-slice-read-parent c = omega arith
+body-of-requires : tie.Need-body-of-requires Inv-loop μ-loop
+body-of-requires c κs = omega arith
 
 cast-parent : tie.Need-cast-parent Inv-loop μ-loop
-cast-parent c = omega (arith, c .shared-slice-known2 .given (8 + 6 * (c .before .before .loop .k - 1) + 3))
+cast-parent c = search needs
 
 returns : tie.Need-returns Inv-loop μ-loop
 returns c =
-    let l = c .before .before .before in
-    found-first (badClimb (S l) (l .before .before .args .rank)) (any (badOwn (Tt l)) (chain (S l) (l .before .before .args .rank))) _ (l .loop .inv .1 ∙ stuck-bad (S l) (l .loop .k) (c .before .before .loop-test .taken) (c .if1 .taken))
+    let l = c .before .before .before .before in
+    found-first (badClimb (S l) (l .before .before .args .rank)) (any (badOwn (Tt l)) (chain (S l) (l .before .before .args .rank))) _ (l .loop .inv .1 ∙ stuck-bad (S l) (l .loop .k) (c .before .before .before .loop-test .taken) (omega (arith, c .if1 .taken, parent (c .before .before))))
 
 mul-last : tie.Need-mul-last Inv-loop μ-loop
 mul-last c = omega arith
@@ -129,8 +124,7 @@ returns-2 c =
     let o = c .before .before in
     let l = Loop o in
     let k = l .loop .k in
-    let down = o .before .before .before .if1 .left in
-    let st = chain-step (S l) k (o .before .before .before .before .before .loop-test .taken) down in
+    let st = chain-step (S l) k (o .before .before .before .before .before .before .loop-test .taken) (below (o .before .before .before)) in
     let b = found-refused (badOwn (Tt l) k) (ownMinutes (Tt l) k) _ (own o) (c .if2 .taken) in
     found-second (badClimb (S l) (l .before .before .args .rank)) (any (badOwn (Tt l)) (chain (S l) (l .before .before .args .rank))) _
     (l .loop .inv .2 ∙ ap (any (badOwn (Tt l))) st ∙ ap (λ (t : Bool). t || (any (badOwn (Tt l)) (chain (S l) (parentAt (S l) k)))) b)
@@ -147,15 +141,20 @@ loop-again c =
     let l = Loop o in
     let k = l .loop .k in
     let p = parentAt (S l) k in
-    let pos = o .before .before .before .before .before .loop-test .taken in
-    let down = o .before .before .before .if1 .left in
+    let q = parent (o .before .before .before .before .before) in
+    let pos = o .before .before .before .before .before .before .loop-test .taken in
+    let down = below (o .before .before .before) in
     let st = chain-step (S l) k pos down in (
-      omega (arith, down, l .loop .inv .0),
-      l .loop .inv .1 ∙ stuck-step (S l) k pos down,
-      l .loop .inv .2 ∙ ap (any (badOwn (Tt l))) st ∙ ap (λ (t : Bool). t || (any (badOwn (Tt l)) (chain (S l) p))) (fine c .0),
-      sum-step (ownMinutes (Tt l)) (toZ w64 (l .loop .sum)) (toZ w64 (ofZ w64 (o .own-minutes .result .sum))) _ k (chain (S l) p) _
+      omega (arith, down, q, l .loop .inv .0),
+      l .loop .inv .1 ∙ stuck-step (S l) k pos down ∙ ap (badClimb (S l)) (sym q),
+      l .loop .inv .2
+          ∙ ap (any (badOwn (Tt l))) st
+          ∙ ap (λ (t : Bool). t || (any (badOwn (Tt l)) (chain (S l) p))) (fine c .0)
+          ∙ ap (λ (r : ℕ). any (badOwn (Tt l)) (chain (S l) r)) (sym q),
+      ap (λ (r : ℕ). toZ w64 (ofZ w64 (toZ w64 (l .loop .sum) +ℤ toZ w64 (ofZ w64 (o .own-minutes .result .sum)))) +ℤ sum (ownMinutes (Tt l)) (chain (S l) r)) q
+          ∙ sum-step (ownMinutes (Tt l)) (toZ w64 (l .loop .sum)) (toZ w64 (ofZ w64 (o .own-minutes .result .sum))) _ k (chain (S l) p) _
           (sym (ap (λ (r : List ℕ). toZ w64 (l .loop .sum) +ℤ sum (ownMinutes (Tt l)) r) st) ∙ l .loop .inv .3) (back o ∙ fine c .1) (toZ-ofZ (safe c)),
-      subst (λ (z : ℤ). mag z ≤ (l .before .before .args .rank - p) * 2147483648) (sym (toZ-ofZ (safe c))) (omega (arith, step c, down, l .loop .inv .0)),
+      subst (λ (z : ℤ). mag z ≤ (l .before .before .args .rank - o .before .before .before .before .before .body-of .result .parent) * 2147483648) (sym (toZ-ofZ (safe c))) (omega (arith, step c, down, q, l .loop .inv .0)),
     )
 
 returns-3 : tie.Need-returns-3 Inv-loop μ-loop
@@ -175,12 +174,7 @@ climb-sum-spec =
     Inv-loop
     μ-loop
     loop-holds
-    sub-at
-    mul-at
-    add-at
-    add-parent
-    mul-parent
-    shared-slice-read-parent
+    body-of-requires
     cast-parent
     returns
     mul-last

@@ -7,7 +7,8 @@ use lib.IntN.{ℤ, pos, negsuc, _-ℤ_}
 use mathlib.Core.Path.{_≡_, refl, sym, ap, _∙_}
 use borrow.Author.Needs.{needs}
 use mathlib.Core.Bool.{Bool, false, _||_}
-use Rattle.sums.specs.Sums.{beyond, leaves32, badTotals, found}
+use Rattle.sums.specs.Sums.{beyond, leaves32, badTotals}
+use Rattle.sums.specs.SumsLayer.{found}
 use Rattle.sums.proofs.Answers.{found-first, found-second, found-sum, found-refused, found-fine}
 use Rattle.sums.proofs.Totals.{leaves-high, leaves-low, leaves-not}
 use Rattle.sums.proofs.own_minutes.Statement.{statement}

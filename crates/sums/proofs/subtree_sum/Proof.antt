@@ -2,24 +2,27 @@
 use lib.IntN.{ℤ, _-ℤ_}
 use mir.Val.{toZ, ofZ}
 use mir.Syntax.{w64}
-use Prim.Native.Nat.{ℕ, _+_, _*_, _-_, _≤_}
+use Prim.Native.Nat.{ℕ, _+_, _-_, _≤_}
 use denote.Ref.{now}
 use lib.ListN.{length}
 use native.Mathlib.Omega.{arith}
 use mathlib.Core.Path.{_≡_, sym, ap, _∙_}
 use borrow.Author.Needs.{needs}
 use mathlib.Core.Bool.{cond, _||_}
-use Rattle.image.specs.Layout.{nodeCount}
+use Rattle.image.specs.Layout.{nodeCount, sizeAt}
+use Rattle.image.specs.declared.Body.{Body}
 use Rattle.navigate.specs.Navigate.{endOf, spanRefusal}
 use Rattle.navigate.specs.NavigateLaws.{Span, span}
-use Rattle.sums.specs.Sums.{totalAt, totalsRefusal, beyond, found}
+use Rattle.sums.specs.Sums.{totalAt, totalsRefusal, beyond}
+use Rattle.sums.specs.SumsLayer.{found}
 use Rattle.sums.proofs.Answers.{sum-first, sum-second, sum-last, enough}
 use Rattle.sums.proofs.subtree_sum.Statement.{statement}
 use Rattle.sums.proofs.subtree_sum.Tie as tie
 use Rattle.sums.proofs.subtree_sum.Reads as reads
 use Rattle.sums.proofs.subtree_sum.Lts as lts
-use Rattle.sums.proofs.difference.Reads as difference-reads
+use Rattle.image.proofs.body_of.Reads as body-of-reads
 use Rattle.navigate.proofs.span_refusal.Reads as span-refusal-reads
+use Rattle.sums.proofs.difference.Reads as difference-reads
 use Rattle.sums.proofs.totals_refusal.Reads as totals-refusal-reads
 
 zero : (c : tie.Else1) → totalsRefusal (now (c .before .before .before .args .index)) (now (c .before .before .before .args .totals)) ≡ 0
@@ -33,6 +36,9 @@ none c = sym (c .before .span-refusal .ensures) ∙ c .if2 .left
 
 ok : (c : tie.Else2) → Span (now (c .before .before .before .before .before .args .index)) (c .before .before .before .before .before .args .rank)
 ok c = span _ _ (none c)
+
+size : (c : tie.After-body-of) → c .body-of .result .size ≡ sizeAt (now (c .before .before .before .before .before .before .args .index)) (c .before .before .before .before .before .before .args .rank)
+size c = ap (λ (b : Body). b .size) (c .body-of .ensures)
 
 totals-refusal-requires : tie.Need-totals-refusal-requires
 totals-refusal-requires c κs = search needs
@@ -50,65 +56,52 @@ returns-2 c =
     let x = c .before .before .before .before .before .args in
     sum-second (totalsRefusal (now (x .index)) (now (x .totals))) (spanRefusal (now (x .index)) (x .rank)) _ _ _ (zero (c .before .before)) (c .before .span-refusal .ensures) (c .if2 .taken)
 
-sub-at : tie.Need-sub-at
-sub-at c = omega (arith, ok c)
-
-mul-at : tie.Need-mul-at
-mul-at c = search needs
-
-add-at : tie.Need-add-at
-add-at c = search needs
-
-add-size : tie.Need-add-size
-add-size c = search needs
-
-mul-size : tie.Need-mul-size
-mul-size c = search needs
-
-shared-slice-read-size : tie.Need-shared-slice-read-size
-shared-slice-read-size c = omega (arith, ok (c .before), ok (c .before) .held)
+body-of-requires : tie.Need-body-of-requires
+body-of-requires c κs = omega (arith, ok c, ok c .held)
 
 cast-size : tie.Need-cast-size
-cast-size c = omega (arith, c .shared-slice-known2 .given (8 + 6 * (c .before .before .before .before .before .before .args .rank - 1) + 2))
+cast-size c = search needs
 
 add-last : tie.Need-add-last
-add-last c = omega (arith, ok (c .before), ok (c .before) .held)
+add-last c = search needs
 
 sub-last : tie.Need-sub-last
-sub-last c = omega (arith, ok (c .before), ok (c .before) .held)
+sub-last c = omega (arith, ok (c .before .before))
 
 mul-last : tie.Need-mul-last
-mul-last c = omega (arith, ok (c .before), ok (c .before) .held)
+mul-last c = omega (arith, ok (c .before .before), ok (c .before .before) .held, size (c .before))
 
 shared-slice-copy-out-last : tie.Need-shared-slice-copy-out-last
-shared-slice-copy-out-last c = omega (arith, ok (c .before), ok (c .before) .held, room (c .before .before .before))
+shared-slice-copy-out-last c = omega (arith, ok (c .before .before), room (c .before .before .before .before), size (c .before))
 
 sub-first : tie.Need-sub-first
-sub-first c = omega (arith, ok (c .before .before))
+sub-first c = omega (arith, ok (c .before .before .before))
 
 mul-first : tie.Need-mul-first
 mul-first c = search needs
 
 shared-slice-copy-out-first : tie.Need-shared-slice-copy-out-first
-shared-slice-copy-out-first c = omega (arith, ok (c .before .before), ok (c .before .before) .held, room (c .before .before .before .before))
+shared-slice-copy-out-first c = omega (arith, ok (c .before .before .before), room (c .before .before .before .before .before))
 
 difference-requires : tie.Need-difference-requires
 difference-requires c κs = search needs
 
 returns-3 : tie.Need-returns-3
 returns-3 c =
-    let x = c .before .before .before .before .before .before .before .before .before .args in
+    let x = c .before .before .before .before .before .before .before .before .before .before .args in
     let s = now (x .index) in
     let t = now (x .totals) in
-    let a = totalAt t (endOf s (x .rank)) in
+    let z = c .before .before .before .before .body-of .result .size in
+    let a = totalAt t (x .rank + z - 1) in
     let b = totalAt t (x .rank - 1) in
     let f : toZ w64 (ofZ w64 a) ≡ a = search needs in
     let e : toZ w64 (ofZ w64 b) ≡ b = search needs in
-    let q : ℕ = cond (beyond a || beyond b) 15 0 in
+    let last : a ≡ totalAt t (endOf s (x .rank)) = ap (λ (n : ℕ). totalAt t (x .rank + n - 1)) (size (c .before .before .before .before)) in
+    let q : ℕ = cond (beyond (totalAt t (endOf s (x .rank))) || beyond b) 15 0 in
     c .difference .ensures
-    ∙ ap (λ (z : ℤ). found (beyond z || beyond (toZ w64 (ofZ w64 b))) (z -ℤ toZ w64 (ofZ w64 b))) f
-    ∙ ap (λ (z : ℤ). found (beyond a || beyond z) (a -ℤ z)) e
-    ∙ sum-last (totalsRefusal s t) (spanRefusal s (x .rank)) q (a -ℤ b) (zero (c .before .before .before .before .before .before)) (none (c .before .before .before .before))
+    ∙ ap (λ (y : ℤ). found (beyond y || beyond (toZ w64 (ofZ w64 b))) (y -ℤ toZ w64 (ofZ w64 b))) (f ∙ last)
+    ∙ ap (λ (y : ℤ). found (beyond (totalAt t (endOf s (x .rank))) || beyond y) (totalAt t (endOf s (x .rank)) -ℤ y)) e
+    ∙ sum-last (totalsRefusal s t) (spanRefusal s (x .rank)) q (totalAt t (endOf s (x .rank)) -ℤ b) (zero (c .before .before .before .before .before .before .before)) (none (c .before .before .before .before .before))
 
 pub subtree-sum-spec : {M : Type 1} → statement M
 subtree-sum-spec =
@@ -118,12 +111,7 @@ subtree-sum-spec =
     returns
     span-refusal-requires
     returns-2
-    sub-at
-    mul-at
-    add-at
-    add-size
-    mul-size
-    shared-slice-read-size
+    body-of-requires
     cast-size
     add-last
     sub-last
