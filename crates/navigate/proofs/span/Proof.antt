@@ -50,7 +50,7 @@ add-bodies-end : tie.Need-add-bodies-end
 add-bodies-end c = omega (arith, ok (c .before .before .before), ok (c .before .before .before) .held, ap (λ (b : Body). b .size) (c .before .before .body-of .ensures))
 
 sub-bodies-end : tie.Need-sub-bodies-end
-sub-bodies-end c = omega (arith, ok (c .before .before .before))
+sub-bodies-end c = omega (arith, ok (c .before .before .before), ap (λ (b : Body). b .size) (c .before .before .body-of .ensures))
 
 bodies-end-requires : tie.Need-bodies-end-requires
 bodies-end-requires c κs = search needs
