@@ -1,8 +1,76 @@
-// What the programs that run cases share: the paper's board, whether rows are the same, and how an answer is printed. Proved safe and ending; what they print is compared.
+// What the programs that run cases share: the paper's board with the index and the running totals that a build with code 3 makes of it, whether rows are the same, and how an answer is printed. Proved safe and ending; what they print is compared.
 ghost use Prim.Native.Nat.{_≤_};
 use board::Board;
 use board::Row;
 use libc::STDOUT_FILENO;
+
+// A table of contents of 8 words, then numeral, row number, tree size, parent rank, root rank, and level with the bits of closing (2^30) and orphan (2^31), for each of 9 nodes.
+pub const INDEX: [u32; 62] = [
+    9,
+    8,
+    6,
+    440,
+    0,
+    0,
+    0,
+    0,
+    10,
+    1,
+    8,
+    0,
+    1,
+    1,
+    30,
+    3,
+    4,
+    1,
+    1,
+    2,
+    40,
+    5,
+    3,
+    2,
+    1,
+    3,
+    20,
+    6,
+    2,
+    3,
+    1,
+    4,
+    40,
+    4,
+    1,
+    4,
+    1,
+    1073741829,
+    20,
+    2,
+    3,
+    1,
+    1,
+    2,
+    40,
+    4,
+    2,
+    6,
+    1,
+    3,
+    20,
+    6,
+    1,
+    7,
+    1,
+    1073741828,
+    91,
+    7,
+    1,
+    0,
+    9,
+    2147483649,
+];
+
+pub const TOTALS: [i64; 10] = [0, 5, 9, 10, 9, 11, 14, 16, 15, 22];
 
 pub fn say(text: &[u8]) {
     io::write_all(STDOUT_FILENO, text);

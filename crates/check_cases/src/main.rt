@@ -2,73 +2,6 @@
 // indexes of 65,535 nodes. Writes one line for each.
 ghost use Prim.Native.Nat.{_<_, _≤_};
 
-// The index of the paper's example: a table of contents of 8 words, then numeral, row number, tree size, parent rank,
-// root rank, and level with the bits of closing (2^30) and orphan (2^31), for each of 9 nodes.
-const EXAMPLE: [u32; 62] = [
-    9,
-    8,
-    6,
-    440,
-    0,
-    0,
-    0,
-    0,
-    10,
-    1,
-    8,
-    0,
-    1,
-    1,
-    30,
-    3,
-    4,
-    1,
-    1,
-    2,
-    40,
-    5,
-    3,
-    2,
-    1,
-    3,
-    20,
-    6,
-    2,
-    3,
-    1,
-    4,
-    40,
-    4,
-    1,
-    4,
-    1,
-    1073741829,
-    20,
-    2,
-    3,
-    1,
-    1,
-    2,
-    40,
-    4,
-    2,
-    6,
-    1,
-    3,
-    20,
-    6,
-    1,
-    7,
-    1,
-    1073741828,
-    91,
-    7,
-    1,
-    0,
-    9,
-    2147483649,
-];
-
 fn report(name: &[u8], index: &[u32]) {
     io::write_all(1, name);
     if index_check::index_check(index) {
@@ -82,7 +15,7 @@ fn report(name: &[u8], index: &[u32]) {
 fn report_changed(name: &[u8], at: usize, word: u32)
     requires { ⌜ at < 62 ⌝ }
 {
-    let mut index = EXAMPLE;
+    let mut index = cases::INDEX;
     index[at] = word;
     report(name, &index);
 }
@@ -91,8 +24,8 @@ fn report_changed(name: &[u8], at: usize, word: u32)
 fn report_body(name: &[u8], rank: usize, size: u32, parent: u32, root: u32, word: u32)
     requires { ⌜ (1 ≤ rank) × (rank ≤ 9) ⌝ }
 {
-    let mut index = EXAMPLE;
-    let at = 8 + 6 * (rank - 1);
+    let mut index = cases::INDEX;
+    let at = image::body_at(rank);
     index[at + 2] = size;
     index[at + 3] = parent;
     index[at + 4] = root;
@@ -103,7 +36,7 @@ fn report_body(name: &[u8], rank: usize, size: u32, parent: u32, root: u32, word
 
 // The example without its last node, rank 8 with another size: no rank follows that a size above 1 would take in.
 fn report_eight(name: &[u8], size: u32) {
-    let mut index = EXAMPLE;
+    let mut index = cases::INDEX;
     index[0] = 8;
     index[52] = size;
     index[3] = image::add_words(&index[8..56], 0);
@@ -142,7 +75,7 @@ fn fill(index: &mut [u32], roots: bool) {
     let mut check: u32 = 0;
     let mut rank: u32 = 0;
     while rank < 65535 {
-        let at = 8 + 6 * (rank as usize);
+        let at = image::bodies_end(rank);
         rank += 1;
         if at <= index.len() {
             check = image::write_body(&mut index[at..], node(rank, roots), check);
@@ -160,9 +93,9 @@ fn report_large() {
 }
 
 fn main() {
-    report(b"example", &EXAMPLE);
-    report(b"one word less", &EXAMPLE[..61]);
-    report(b"no words", &EXAMPLE[..0]);
+    report(b"example", &cases::INDEX);
+    report(b"one word less", &cases::INDEX[..61]);
+    report(b"no words", &cases::INDEX[..0]);
     report_changed(b"word 1 is 7", 1, 7);
     report_changed(b"word 2 is 7", 2, 7);
     report_changed(b"10 nodes where 9 fit", 0, 10);

@@ -1,63 +1,18 @@
 // Runs each navigation call on the index of the listing of paper 01, and on slices that are damaged in one word; prints one line a case.
 use libc::STDOUT_FILENO;
 
-// That index with the six words of a body at a place.
-fn node(
-    index: [u32; 62],
-    at: usize,
-    numeral: u32,
-    row: u32,
-    size: u32,
-    parent: u32,
-    root: u32,
-    last: u32,
-) -> [u32; 62] {
-    let mut next = index;
-    if at < 57 {
-        next[at] = numeral;
-        next[at + 1] = row;
-        next[at + 2] = size;
-        next[at + 3] = parent;
-        next[at + 4] = root;
-        next[at + 5] = last;
-    }
-    next
-}
-
-// The image of the nine nodes that the listing prints.
-fn listing_index() -> [u32; 62] {
-    let mut index = [0u32; 62];
-    index[0] = 9;
-    index[1] = 8;
-    index[2] = 6;
-    index[3] = 440;
-    let index = node(index, 8, 10, 1, 8, 0, 1, image::pack(1, false, false));
-    let index = node(index, 14, 30, 3, 4, 1, 1, image::pack(2, false, false));
-    let index = node(index, 20, 40, 5, 3, 2, 1, image::pack(3, false, false));
-    let index = node(index, 26, 20, 6, 2, 3, 1, image::pack(4, false, false));
-    let index = node(index, 32, 40, 4, 1, 4, 1, image::pack(5, true, false));
-    let index = node(index, 38, 20, 2, 3, 1, 1, image::pack(2, false, false));
-    let index = node(index, 44, 40, 4, 2, 6, 1, image::pack(3, false, false));
-    let index = node(index, 50, 20, 6, 1, 7, 1, image::pack(4, true, false));
-    node(index, 56, 91, 7, 1, 0, 9, image::pack(1, false, true))
-}
-
-fn listing_totals() -> [i64; 10] {
-    [0, 5, 9, 10, 9, 11, 14, 16, 15, 22]
-}
-
-// That index with one word changed.
+// The example index with one word changed.
 fn damaged(at: usize, word: u32) -> [u32; 62] {
-    let mut index = listing_index();
+    let mut index = cases::INDEX;
     if at < 62 {
         index[at] = word;
     }
     index
 }
 
-// Those totals with one changed.
+// Its totals with one changed.
 fn changed(at: usize, total: i64) -> [i64; 10] {
-    let mut totals = listing_totals();
+    let mut totals = cases::TOTALS;
     if at < 10 {
         totals[at] = total;
     }
@@ -211,23 +166,23 @@ fn short(title: &[u8], index: &[u32], length: usize, totals: &[i64], held: usize
 }
 
 fn ranks() {
-    let index = listing_index();
-    let totals = listing_totals();
+    let index = cases::INDEX;
+    let totals = cases::TOTALS;
     each_call(b"rank 1", &index, &totals, 1);
     each_call(b"rank 5", &index, &totals, 5);
     each_call(b"rank 9", &index, &totals, 9);
 }
 
 fn no_ranks() {
-    let index = listing_index();
-    let totals = listing_totals();
+    let index = cases::INDEX;
+    let totals = cases::TOTALS;
     each_call(b"rank 0", &index, &totals, 0);
     each_call(b"rank 10", &index, &totals, 10);
     each_call(b"rank 4294967295", &index, &totals, 4294967295);
 }
 
 fn limits_of_lists() {
-    let index = listing_index();
+    let index = cases::INDEX;
     say(b"limits\n");
     descendants(&index, 2, 2, 3, 0);
     ancestors(&index, 5, -4, 0, 0);
@@ -236,14 +191,14 @@ fn limits_of_lists() {
 }
 
 fn wide_limits() {
-    let index = listing_index();
+    let index = cases::INDEX;
     say(b"a lower limit above the upper, no places; the widest limits, eight places\n");
     descendants(&index, 1, 3, 2, 9);
     descendants(&index, 1, -2147483648, 2147483647, 1);
 }
 
 fn short_lists() {
-    let index = listing_index();
+    let index = cases::INDEX;
     say(b"one place too few\n");
     descendants(&index, 1, 0, 9, 2);
     ancestors(&index, 5, -4, 0, 5);
@@ -251,8 +206,8 @@ fn short_lists() {
 }
 
 fn short_slices() {
-    let index = listing_index();
-    let totals = listing_totals();
+    let index = cases::INDEX;
+    let totals = cases::TOTALS;
     short(b"seven words", &index, 7, &totals, 10);
     short(b"one word too few", &index, 61, &totals, 10);
     short(b"nine totals", &index, 62, &totals, 9);
@@ -260,7 +215,7 @@ fn short_slices() {
 
 fn with_word(title: &[u8], at: usize, word: u32, rank: u32) {
     let index = damaged(at, word);
-    let totals = listing_totals();
+    let totals = cases::TOTALS;
     each_call(title, &index, &totals, rank);
 }
 
@@ -288,7 +243,7 @@ fn damaged_bodies() {
 }
 
 fn with_total(title: &[u8], at: usize, total: i64) {
-    let index = listing_index();
+    let index = cases::INDEX;
     let totals = changed(at, total);
     subtotal(title, &index, &totals);
 }

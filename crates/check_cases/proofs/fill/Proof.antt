@@ -1,5 +1,5 @@
-use mathlib.Core.Path.{_≡_}
 use borrow.Author.Needs.{needs}
+use mathlib.Core.Path.{_≡_}
 use Prim.Native.Nat.{_≤_, _-_}
 use lib.ListN.{length}
 use Rattle.check_cases.proofs.fill.Statement.{statement}
@@ -7,6 +7,7 @@ use Rattle.check_cases.proofs.fill.Tie as tie
 use Rattle.check_cases.proofs.fill.Reads as reads
 use Rattle.check_cases.proofs.fill.Lts as lts
 use Rattle.check_cases.proofs.node.Reads as node-reads
+use Rattle.image.proofs.bodies_end.Reads as bodies-end-reads
 use Rattle.image.proofs.write_body.Reads as write-body-reads
 use Rattle.image.proofs.write_contents.Reads as write-contents-reads
 
@@ -19,14 +20,8 @@ abbrev μ-loop : tie.MeasureT-loop
 loop-holds : tie.Need-loop-holds Inv-loop μ-loop
 loop-holds c = search needs
 
-cast-at : tie.Need-cast-at Inv-loop μ-loop
-cast-at c = search needs
-
-mul-at : tie.Need-mul-at Inv-loop μ-loop
-mul-at c = search needs
-
-add-at : tie.Need-add-at Inv-loop μ-loop
-add-at c = search needs
+bodies-end-requires : tie.Need-bodies-end-requires Inv-loop μ-loop
+bodies-end-requires c κs = search needs
 
 add-rank : tie.Need-add-rank Inv-loop μ-loop
 add-rank c = search needs
@@ -77,9 +72,7 @@ fill-spec =
     Inv-loop
     μ-loop
     loop-holds
-    cast-at
-    mul-at
-    add-at
+    bodies-end-requires
     add-rank
     mul-write-body
     sub-write-body

@@ -1,21 +1,15 @@
-use lib.ListN.{length-set}
 use borrow.Author.Needs.{needs}
-use Prim.Native.Nat.{_-_}
+use lib.ListN.{length-set}
 use Rattle.check_cases.proofs.report_body.Statement.{statement}
 use Rattle.check_cases.proofs.report_body.Tie as tie
 use Rattle.check_cases.proofs.report_body.Reads as reads
 use Rattle.check_cases.proofs.report_body.Lts as lts
 use Rattle.check_cases.proofs.report.Reads as report-reads
 use Rattle.image.proofs.add_words.Reads as add-words-reads
+use Rattle.image.proofs.body_at.Reads as body-at-reads
 
-sub-at : tie.Need-sub-at
-sub-at c = search needs
-
-mul-at : tie.Need-mul-at
-mul-at c = search needs
-
-add-at : tie.Need-add-at
-add-at c = search needs
+body-at-requires : tie.Need-body-at-requires
+body-at-requires c κs = search needs
 
 add-index : tie.Need-add-index
 add-index c = search needs
@@ -81,9 +75,7 @@ pub report-body-spec : {M : Type 1} → statement M
 report-body-spec =
     tie.close
     (tie.spec
-    sub-at
-    mul-at
-    add-at
+    body-at-requires
     add-index
     mul-index
     array-write-index
