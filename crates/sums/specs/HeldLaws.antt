@@ -42,7 +42,7 @@ module _ {A : Type 0} {f : A → ℤ} {l : List A} {t : List ℤ} (g : HoldsTota
   totals-long = omega (arith, ap length (g .is), length-append (totalsFrom f (pos 0) l) (g .rest), totals-length f (pos 0) l)
 
   module _ (few : length l ≤ 65535) (small : (x : A) → x ∈ l → mag (f x) < 2147483648) where
-    total-near : (k : ℕ) → k ≤ length l → beyond (totalAt t k) ≡ false
+    pub total-near : (k : ℕ) → k ≤ length l → beyond (totalAt t k) ≡ false
     total-near k b =
         ap beyond (total-is k b)
         ∙ not-beyond (sum f (take k l)) (omega (arith, sum-bound f (take k l) (λ x m. small x (take-in k l x m)), length-take-le k l b))
