@@ -24,21 +24,22 @@ use Rattle.paths.specs.BodyLaws.{bodies-length, bodies-map, body-field, body-re
 use Rattle.paths.specs.ParentLaws.{Allowed, nodes-closed}
 use Rattle.paths.specs.BoundLaws.{node-bounded, level-fits}
 use Rattle.answers.specs.Described.{Described, closed-described}
-use Rattle.guarantee.specs.Guarantee.{NodeList, Closing, BodyOf}
+use Rattle.guarantee.specs.Builds.{NodeList, BodyOf}
+use Rattle.guarantee.specs.Guarantee.{Closing, pathNodes}
 
 module _ (R : List Row) (starts : Row → Bool) (depth : Depth) (o : Orphan) where
-  pub node-list : NodeList R starts depth o (nodes R starts depth o)
+  pub node-list : NodeList (pathNodes R starts depth o) (nodes R starts depth o)
   node-list = record { holds = nodes-are R starts depth o; order = nodes-ordered R starts depth o }
 
   -- the body b of a regular path p, or of an orphan node
-  abbrev Kind : List ℕ → Body → Type 0
-  Kind p b =
+  abbrev Flags : List ℕ → Body → Type 0
+  Flags p b =
       (Regular R starts depth p × (b .orphan ≡ false) × (b .closing ≡ closes R p))
       ⊎ (OrphanNode R starts depth o p × (b .orphan ≡ true) × (b .closing ≡ orphanCloses R o p))
 
-  kind : (k : ℕ) (d : Body) → k < length (nodes R starts depth o) → Kind (getD (nodes R starts depth o) k []) (getD (bodies R starts depth o) k d)
+  flags : (k : ℕ) (d : Body) → k < length (nodes R starts depth o) → Flags (getD (nodes R starts depth o) k []) (getD (bodies R starts depth o) k d)
   unfolding nodes
-  kind k d h = go (decLt k (length F))
+  flags k d h = go (decLt k (length F))
     where
       F : List (List ℕ)
       F = regular R starts depth
@@ -46,7 +47,7 @@ module _ (R : List Row) (starts : Row → Bool) (depth : Depth) (o : Orphan) whe
       O : List (List ℕ)
       O = orphanNodes R starts depth o
 
-      late : (j : ℕ) → j < length O → Kind (getD (F ++ O) (length F + j) []) (getD (bodies R starts depth o) (length F + j) d)
+      late : (j : ℕ) → j < length O → Flags (getD (F ++ O) (length F + j) []) (getD (bodies R starts depth o) (length F + j) d)
       late j l =
           let e : getD (F ++ O) (length F + j) [] ≡ getD O j [] = getD-append-right F O j [] in
           let b = body-orphan R starts depth o j d l in
@@ -56,7 +57,7 @@ module _ (R : List Row) (starts : Row → Bool) (depth : Depth) (o : Orphan) whe
             ap (λ (x : Body). x .closing) b ∙ ap (orphanCloses R o) (sym e),
           )
 
-      go : Dec (k < length F) → Kind (getD (F ++ O) k []) (getD (bodies R starts depth o) k d)
+      go : Dec (k < length F) → Flags (getD (F ++ O) k []) (getD (bodies R starts depth o) k d)
       go (yes l) =
           let e : getD (F ++ O) k [] ≡ getD F k [] = List·getD-append F O [] k l in
           let b = body-regular R starts depth o k d l in
@@ -67,9 +68,9 @@ module _ (R : List Row) (starts : Row → Bool) (depth : Depth) (o : Orphan) whe
           )
       go (no l) =
           let e : length F + (k - length F) ≡ k = omega arith in
-          subst (λ n. Kind (getD (F ++ O) n []) (getD (bodies R starts depth o) n d)) e (late (k - length F) (omega (arith, length-append F O)))
+          subst (λ n. Flags (getD (F ++ O) n []) (getD (bodies R starts depth o) n d)) e (late (k - length F) (omega (arith, length-append F O)))
 
-  closing-is : (p : List ℕ) (b : Body) → Kind p b → T (b .closing) ↔ Closing R starts depth o p
+  closing-is : (p : List ℕ) (b : Body) → Flags p b → T (b .closing) ↔ Closing R starts depth o p
   closing-is p b (inl r) = (
     (λ t. inl (r .0, subst T (r .2) t)),
     ⊎-elim (λ c. subst T (sym (r .2)) (c .1)) (λ c. absurd (regular-or-orphan R starts depth o p (r .0) (c .0))),
@@ -79,15 +80,15 @@ module _ (R : List Row) (starts : Row → Bool) (depth : Depth) (o : Orphan) whe
     ⊎-elim (λ c. absurd (regular-or-orphan R starts depth o p (c .0) (r .0))) (λ c. subst T (sym (r .2)) (c .1)),
   )
 
-  orphan-is : (p : List ℕ) (b : Body) → Kind p b → T (b .orphan) ↔ OrphanNode R starts depth o p
+  orphan-is : (p : List ℕ) (b : Body) → Flags p b → T (b .orphan) ↔ OrphanNode R starts depth o p
   orphan-is p b (inl r) = ((λ t. absurd (subst T (r .1) t)), (λ n. absurd (regular-or-orphan R starts depth o p (r .0) n)))
   orphan-is p b (inr r) = ((λ t. r .0), (λ n. subst T (sym (r .1)) tt))
 
   -- the k-th body is that of the k-th node
   pub body-of : (k : ℕ) (d : Body) → 1 ≤ k → k ≤ length (nodes R starts depth o)
-      → BodyOf R starts depth o (nodes R starts depth o) (nodeAt (nodes R starts depth o) k) (getD (bodies R starts depth o) (k - 1) d)
+      → BodyOf (pathNodes R starts depth o) (nodes R starts depth o) (nodeAt (nodes R starts depth o) k) (getD (bodies R starts depth o) (k - 1) d)
   body-of k d low high =
-      let t = kind (k - 1) d (omega arith) in
+      let t = flags (k - 1) d (omega arith) in
       let p : List ℕ = nodeAt (nodes R starts depth o) k in
       let b : Body = getD (bodies R starts depth o) (k - 1) d in
       record {
@@ -121,5 +122,5 @@ module _ (R : List Row) (starts : Row → Bool) (depth : Depth) (o : Orphan) whe
         let f = level-fits R starts depth o few (getD (bodies R starts depth o) (k - 1) d) (getD-in (bodies R starts depth o) (k - 1) d (omega arith)) in
         body-read h k d low (omega arith) (omega arith)
 
-    pub read-of : BodyOf R starts depth o (nodes R starts depth o) (nodeAt (nodes R starts depth o) k) (bodyOf s k)
-    read-of = subst (BodyOf R starts depth o (nodes R starts depth o) (nodeAt (nodes R starts depth o) k)) (sym (body-here (bodyOf s k))) (body-of k (bodyOf s k) low high)
+    pub read-of : BodyOf (pathNodes R starts depth o) (nodes R starts depth o) (nodeAt (nodes R starts depth o) k) (bodyOf s k)
+    read-of = subst (BodyOf (pathNodes R starts depth o) (nodes R starts depth o) (nodeAt (nodes R starts depth o) k)) (sym (body-here (bodyOf s k))) (body-of k (bodyOf s k) low high)

@@ -1,4 +1,4 @@
--- Demand 3 holds of every list of calls. Assumes nothing.
+-- Demand 3 holds of every list of calls, and what it says of a build holds of every sound board. Assumes nothing.
 use mathlib.Core.Path.{_≡_, refl, sym, ap, subst, _∙_}
 use mathlib.Core.Bool.{Bool, true, false, cond, not, true≢false}
 use mathlib.Core.List.{List, map}
@@ -22,30 +22,29 @@ use Rattle.options.specs.declared.Depth.{Depth}
 use Rattle.options.specs.declared.Depth.the-variants.{None, Limit}
 use Rattle.options.specs.Options.{orphanOf}
 use Rattle.image.specs.Layout.{imageWords}
-use Rattle.image.specs.ImageLaws.{HoldsImage, holds-front, bodies-read}
+use Rattle.image.specs.ImageLaws.{Holds, holds-front, bodies-read}
 use Rattle.paths.specs.Forest.{memb}
 use Rattle.paths.specs.Paths.{last, Orphan}
 use Rattle.paths.specs.Nodes.{nodes}
 use Rattle.paths.specs.Bodies.{minutesOf, runningTotals, bodies, leftRows, leftOf}
 use Rattle.paths.specs.Refusals.{orphanChoice, refusal7, refusalOf}
-use Rattle.paths.specs.NodeLaws.{nodes-are, nodes-forest}
+use Rattle.paths.specs.NodeLaws.{nodes-forest}
 use Rattle.paths.specs.BodyLaws.{bodies-length, left-is}
 use Rattle.paths.specs.RefusalLaws.{accepted}
-use Rattle.paths.specs.ParentLaws.{Allowed}
-use Rattle.paths.specs.BoundLaws.{level-fits, minutes-fit}
-use Rattle.navigate.specs.Navigate.{descendantsAnswer, descendantsOut}
-use Rattle.sums.specs.Sums.{subtreeAnswer}
+use Rattle.paths.specs.Parents.{Allowed}
+use Rattle.paths.specs.Bounds.{level-fits, minutes-fit}
 use Rattle.sums.specs.HeldLaws.{HoldsTotals}
-use Rattle.answers.specs.Answers.{Descendants, Sum}
+use Rattle.answers.specs.Answers.{Navigation}
 use Rattle.answers.specs.Described.{count-here}
-use Rattle.answers.specs.AnswerLaws.{descendants-here, sum-here}
+use Rattle.answers.specs.NavigationLaws.{navigation-here}
+use Rattle.answers.specs.ZeroLaws.{zeros-refused}
 use Rattle.request.specs.declared.Built.{Built}
 use Rattle.request.specs.Build.{startRule, buildRefusal, builtOf, indexAfter, totalsAfter}
-use Rattle.guarantee.specs.Guarantee.{BuildRefusal, Accepted, Refused, Fits, Build, Guarantee}
+use Rattle.guarantee.specs.Builds.{Accepted, Refused}
+use Rattle.guarantee.specs.Guarantee.{buildNodes, BuildRefusal, PathBuild, BuildOn, RowsFit, Fits, SoundBuild, Guarantee}
 use Rattle.guarantee.specs.BodyLaws.{node-list, read-of, described, short}
 use Rattle.guarantee.specs.SentenceLaws.{first-sentence}
-use Rattle.guarantee.specs.MinutesLaws.{RowsFit, rows-fit}
-use Rattle.guarantee.specs.NavigationLaws.{zeros-descendants, zeros-sum}
+use Rattle.guarantee.specs.MinutesLaws.{minutes-bounded, rows-fit}
 
 -- sentence 7 doesn't apply, so a depth is given only where there are no orphan nodes
 allowed-here : (depth : Depth) (orphan : ℕ) → refusal7 orphan depth ≡ false → Allowed depth (orphanChoice orphan)
@@ -90,14 +89,7 @@ module _ (R : List Row) (few : length R ≤ 1024) (code : ℕ) (depth : Depth) (
       record { allowed = allowed-here depth (orphanOf code) (t .sentence7); small = omega (arith, ltb-false 65535 n (a .0)); long = omega (arith, ltb-false (length totals) (n + 1) (b .1)) }
 
   zeroed : (q : ℕ) → Refused (answerOf q false) index (indexOf false) totals (totalsOf false)
-  zeroed q = record {
-    n = refl;
-    left = refl;
-    zero-index = refl;
-    zero-totals = refl;
-    descendants = zeros-descendants (length index);
-    sums = zeros-sum (length index) (replicate (length totals) (pos 0));
-  }
+  zeroed q = record { n = refl; left = refl; zero-index = refl; zero-totals = refl; navigation = zeros-refused (length index) (replicate (length totals) (pos 0)) }
 
   left-increasing : Increasing _<_ (leftRows R starts depth o)
   unfolding leftRows
@@ -107,14 +99,15 @@ module _ (R : List Row) (few : length R ≤ 1024) (code : ℕ) (depth : Depth) (
   unfolding leftOf
   left-length = refl
 
-  held : HoldsImage (indexOf true) (bodies R starts depth o)
+  held : Holds (indexOf true) (bodies R starts depth o)
   held = holds-front (bodies R starts depth o) index
 
   running : HoldsTotals (minutesOf R) W (totalsOf true)
   unfolding runningTotals
   running = record { rest = drop (length (runningTotals R W)) totals; is = front-is (runningTotals R W) totals }
 
-  written : (q : ℕ) → Room → Accepted R starts depth o W (answerOf q true) index (indexOf true) totals (totalsOf true)
+  written : (q : ℕ) → Room → Accepted (buildNodes R code depth starts) W (answerOf q true) index (indexOf true) totals (totalsOf true)
+  unfolding runningTotals
   written q r = record {
     n = refl;
     count = count-here (nodes-forest R starts depth o) (described R starts depth o (r .allowed)) (short R starts depth o few) held;
@@ -123,27 +116,22 @@ module _ (R : List Row) (few : length R ≤ 1024) (code : ℕ) (depth : Depth) (
     running = refl;
     leftRows = leftRows R starts depth o;
     left-rising = left-increasing;
-    left-is = λ x. (
-      (λ m. let u = left-is R starts depth o x .0 m in (u .0, (λ p k. u .1 p (nodes-are R starts depth o p .0 k)))),
-      (λ u. left-is R starts depth o x .1 (u .0, (λ p k. u .1 p (nodes-are R starts depth o p .1 k)))),
-    );
+    left-is = left-is R starts depth o;
     left-count = left-length;
   }
 
   pub build-of : (fits : Type 0) → (fits → RowsFit R) → (q : ℕ) → q ≡ refusalOf R code depth starts (length index) (length totals)
-      → Build R fits code depth starts (answerOf q (eqb q 0)) index (indexOf (eqb q 0)) totals (totalsOf (eqb q 0))
+      → PathBuild R code depth starts fits (answerOf q (eqb q 0)) index (indexOf (eqb q 0)) totals (totalsOf (eqb q 0))
   build-of fits f q e = record {
     W = W;
     nodes = node-list R starts depth o;
-    refusal = subst (BuildRefusal R code depth starts W (length index) (length totals)) (sym e) (first-sentence R code depth starts (length index) (length totals));
+    refusal = subst (BuildRefusal R code depth starts (length index) (length totals) W) (sym e) (first-sentence R code depth starts (length index) (length totals));
     refused = λ n. subst (λ t. Refused (answerOf q t) index (indexOf t) totals (totalsOf t)) (sym (ne-eqb q 0 n)) (zeroed q);
-    accepted = λ z. subst (λ t. Accepted R starts depth o W (answerOf q t) index (indexOf t) totals (totalsOf t)) (sym (eq-eqb q 0 z)) (written q (room (sym e ∙ z)));
-    descendants = λ z. let r = room (sym e ∙ z) in
-        subst (λ t. (rank : ℕ) (lower upper : ℤ) (out : List ℕ) → Descendants W rank lower upper out (descendantsAnswer (indexOf t) rank lower upper out) (descendantsOut (indexOf t) rank lower upper out)) (sym (eq-eqb q 0 z))
-        (λ rank. descendants-here (nodes-forest R starts depth o) (described R starts depth o (r .allowed)) (short R starts depth o few) (r .small) held rank);
-    sums = λ z g. let r = room (sym e ∙ z) in
-        subst (λ t. (rank : ℕ) → Sum (minutesOf R) W rank (subtreeAnswer (indexOf t) (totalsOf t) rank)) (sym (eq-eqb q 0 z))
-        (λ rank. sum-here (nodes-forest R starts depth o) (described R starts depth o (r .allowed)) (short R starts depth o few) (r .small) held rank (minutesOf R) (λ p m. minutes-fit R (f g) (last p)) running);
+    accepted = λ z. subst (λ t. Accepted (buildNodes R code depth starts) W (answerOf q t) index (indexOf t) totals (totalsOf t)) (sym (eq-eqb q 0 z)) (written q (room (sym e ∙ z)));
+    navigation = λ z. let r = room (sym e ∙ z) in
+        subst (λ t. Navigation (minutesOf R) W fits (indexOf t) (totalsOf t)) (sym (eq-eqb q 0 z))
+        (navigation-here (nodes-forest R starts depth o) (described R starts depth o (r .allowed)) (short R starts depth o few) (r .small) held
+        (minutesOf R) fits (λ g p m. minutes-fit R (minutes-bounded R (f g)) (last p)) running);
   }
 
 -- ---- a build on a sound board
@@ -151,23 +139,20 @@ module _ (R : List Row) (few : length R ≤ 1024) (code : ℕ) (depth : Depth) (
 pub sound-few : (b : Board) → soundOf b ≡ true → length (rowsOf b) ≤ 1024
 sound-few b sound = omega (arith, sound-count b sound, length-take (b .count) (b .rows))
 
-build-on : (b : Board) → soundOf b ≡ true → (fits : Type 0) → (fits → RowsFit (rowsOf b))
-    → (code : ℕ) (depth : Depth) (starts : Row → Bool) (index : List ℕ) (totals : List ℤ)
-    → Build (rowsOf b) fits code depth starts (builtOf b code depth starts (length index) (length totals)) index (indexAfter b code depth starts index (length totals)) totals (totalsAfter b code depth starts (length index) totals)
+build-on : (b : Board) → soundOf b ≡ true → (fits : Type 0) → (fits → RowsFit (rowsOf b)) → BuildOn b (rowsOf b) fits
 unfolding buildRefusal builtOf indexAfter totalsAfter
-build-on b sound fits f code depth starts index totals =
-    build-of (rowsOf b) (sound-few b sound) code depth starts index totals fits f (buildRefusal b code depth starts (length index) (length totals))
-    (ap (λ t. cond t (refusalOf (rowsOf b) code depth starts (length index) (length totals)) 1) sound)
+build-on b sound fits f code depth rule list index totals =
+    build-of (rowsOf b) (sound-few b sound) code depth (startRule rule list) index totals fits f (buildRefusal b code depth (startRule rule list) (length index) (length totals))
+    (ap (λ t. cond t (refusalOf (rowsOf b) code depth (startRule rule list) (length index) (length totals)) 1) sound)
+
+pub sound-build : (b : Board) → SoundBuild b
+sound-build b sound = build-on b sound (RowsFit (rowsOf b)) (λ f. f)
 
 -- ---- every list of calls
 
 pub guarantee : (cs : List Call) → Guarantee cs
 guarantee cs = record {
   edits = simulation cs;
-  build = λ code depth rule list index totals.
-      let b : Board = final emptyOf cs in
-      let s : Row → Bool = startRule rule list in
-      subst (λ R. Build R ((c : Call) → c ∈ cs → Fits c) code depth s (builtOf b code depth s (length index) (length totals)) index (indexAfter b code depth s index (length totals)) totals (totalsAfter b code depth s (length index) totals))
-      (final-rows cs)
-      (build-on b (final-sound cs) ((c : Call) → c ∈ cs → Fits c) (λ g. subst RowsFit (sym (final-rows cs)) (rows-fit cs g)) code depth s index totals);
+  build = subst (λ R. BuildOn (final emptyOf cs) R ((c : Call) → c ∈ cs → Fits c)) (final-rows cs)
+      (build-on (final emptyOf cs) (final-sound cs) ((c : Call) → c ∈ cs → Fits c) (λ g. subst RowsFit (sym (final-rows cs)) (rows-fit cs g)));
 }

@@ -1,10 +1,10 @@
+pub mod Builds
 pub mod Guarantee
 pub mod BodyLaws
 pub mod SentenceLaws
 pub mod MinutesLaws
-pub mod NavigationLaws
 pub mod GuaranteeLaws
-pub mod CheckedLaws
+pub mod BuiltIndexLaws
 pub mod Running
 pub mod RunningLaws
 pub mod Marked

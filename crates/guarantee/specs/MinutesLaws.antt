@@ -20,7 +20,7 @@ use Rattle.history.specs.declared.Call.{Call}
 use Rattle.history.specs.declared.Call.the-variants.{Add, Withdraw, Remark, Undo}
 use Rattle.history.specs.Machine.{Machine, Answer, gives, changes, goesBack, answer, after, start}
 use Rattle.sums.specs.Sums.{leaves32}
-use Rattle.guarantee.specs.Guarantee.{Fits}
+use Rattle.guarantee.specs.Guarantee.{RowsFit, Fits}
 
 minutes-small : (z : ℤ) → leaves32 z ≡ false → mag z < 2147483648
 unfolding leaves32
@@ -39,8 +39,9 @@ set-in (y ∷ l) zero v x (inr m) = inr (inr m)
 set-in (y ∷ l) (suc i) v x (inl e) = inr (inl e)
 set-in (y ∷ l) (suc i) v x (inr m) = ⊎-elim (λ e. inl e) (λ k. inr (inr k)) (set-in l i v x m)
 
-abbrev pub RowsFit : List Row → Type 0
-RowsFit R = (r : Row) → r ∈ R → mag (r .minutes) < 2147483648
+-- minutes of 32 bits, as a bound on the number
+pub minutes-bounded : (R : List Row) → RowsFit R → (r : Row) → r ∈ R → mag (r .minutes) < 2147483648
+minutes-bounded R h r m = minutes-small (r .minutes) (h r m)
 
 abbrev MachineFits : Machine → Type 0
 MachineFits m = RowsFit (m .rows) × ((l : List Row) → l ∈ m .earlier → RowsFit l)
@@ -67,7 +68,7 @@ step-fits m (Add r) h f =
   where
     added : RowsFit (m .rows ++ (r ∷ []))
     added x i =
-        ⊎-elim (λ j. h .0 x j) (⊎-elim (λ e. subst (λ (y : Row). mag (y .minutes) < 2147483648) (sym e) (minutes-small (r .minutes) f)) (λ j. absurd j))
+        ⊎-elim (λ j. h .0 x j) (⊎-elim (λ e. subst (λ (y : Row). leaves32 (y .minutes) ≡ false) (sym e) f) (λ j. absurd j))
         (append-out (m .rows) (r ∷ []) x i)
 step-fits m (Withdraw k) h f =
     either-fits (noRow (length (m .rows)) k) (gives 4 m) (changes m (without (m .rows) (k - 1))) h
@@ -80,7 +81,7 @@ step-fits m (Remark k minutes) h f =
 
     marked : RowsFit (set (m .rows) (k - 1) new)
     marked x i =
-        ⊎-elim (λ e. subst (λ (y : Row). mag (y .minutes) < 2147483648) (sym e) (minutes-small minutes f)) (λ j. h .0 x j) (set-in (m .rows) (k - 1) new x i)
+        ⊎-elim (λ e. subst (λ (y : Row). leaves32 (y .minutes) ≡ false) (sym e) f) (λ j. h .0 x j) (set-in (m .rows) (k - 1) new x i)
 step-fits m Undo h f = back-fits m (m .earlier) h (h .1)
 
 after-fits : (cs : List Call) (m : Machine) → MachineFits m → ((c : Call) → c ∈ cs → Fits c) → MachineFits (after m cs)

@@ -21,7 +21,7 @@ use Rattle.request.specs.Build.{startRule, builtOf, indexAfter, totalsAfter}
 use Rattle.guarantee.specs.declared.Whole.{Whole}
 use Rattle.answers.specs.Answers.{Descendants, Sum}
 use Rattle.paths.specs.Bodies.{minutesOf}
-use Rattle.guarantee.specs.Guarantee.{Fits, Build}
+use Rattle.guarantee.specs.Guarantee.{PathBuild, Fits}
 
 -- the answers of a build on the board that a replay left, and of the navigation on what that build left
 abbrev pub wholeOf : Replayed → ℕ → Depth → (Row → Bool) → List ℕ → List ℤ → ℕ → ℤ → ℤ → List ℕ → Whole
@@ -57,7 +57,7 @@ pub record Demand3 (cs : List Call) (refusals : List ℕ) (code : ℕ) (depth : 
   pub edits : refusals' ≡ front (answers start cs) refusals
   pub kept : answer .kept ≡ length (after start cs .earlier)
   pub count : answer .count ≡ length (after start cs .rows)
-  pub build : Build (after start cs .rows) ((c : Call) → c ∈ cs → Fits c) code depth (startRule rule list) (answer .built) index index' totals totals'
+  pub build : PathBuild (after start cs .rows) code depth (startRule rule list) ((c : Call) → c ∈ cs → Fits c) (answer .built) index index' totals totals'
   pub listed : answer .built .refusal ≡ 0 → Descendants (build .W) rank lower upper out (answer .listed) out'
   pub unlisted : answer .built .refusal ≢ 0 → (answer .listed ≡ record { refusal = 13; len = 0 }) × (out' ≡ out)
   pub summed : answer .built .refusal ≡ 0 → Sum (minutesOf (after start cs .rows)) (build .W) rank (answer .summed)

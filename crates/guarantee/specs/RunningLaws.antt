@@ -6,13 +6,12 @@ use mathlib.Core.List.{List, [], _∷_}
 use Prim.Native.Nat.{ℕ, zero, suc, _+_, _*_, _/_, _<_}
 use native.Mathlib.Omega.{arith}
 use lib.Dec.{eqb}
-use lib.IntN.{ℤ, pos, negsuc}
-use lib.Signed.{mag}
+use lib.IntN.{ℤ}
 use mir.Syntax.{w32}
 use mir.Val.{toZ}
 use mir.Facts.{sfits-toZ}
 use lib.ListN.{length, length-take}
-use borrow.Author.Tests.{eq-eqb, eqb-true, le-ltb}
+use borrow.Author.Tests.{eq-eqb, eqb-true}
 use Rattle.lists.specs.Members.{_∈_, append-out}
 use Rattle.lists.specs.Stores.{front}
 use Rattle.board.specs.declared.Row.{Row}
@@ -30,6 +29,7 @@ use Rattle.navigate.specs.declared.Listed.{Listed}
 use Rattle.navigate.specs.Navigate.{descendantsAnswer, descendantsOut}
 use Rattle.sums.specs.declared.Summed.{Summed}
 use Rattle.sums.specs.Sums.{subtreeAnswer, leaves32}
+use Rattle.answers.specs.PathSumLaws.{small-stays}
 use Rattle.request.specs.declared.Start.{Start}
 use Rattle.request.specs.declared.Built.{Built}
 use Rattle.request.specs.Build.{startRule, builtOf, indexAfter, totalsAfter}
@@ -98,11 +98,6 @@ final-count cs = let v = final-valid cs in omega (arith, length-take (final empt
 
 -- ---- the minutes of the calls that words tell
 
-small-stays : (z : ℤ) → mag z < 2147483648 → leaves32 z ≡ false
-unfolding leaves32
-small-stays (pos n) h = rw (le-ltb 2147483647 n (omega arith))
-small-stays (negsuc n) h = le-ltb 2147483647 n (omega arith)
-
 word-stays : (n : ℕ) → n < 4294967296 → leaves32 (toZ w32 n) ≡ false
 word-stays n h = small-stays (toZ w32 n) (sfits-toZ {w = w32} {n = n} (record { fits = h }) .sfits)
 
@@ -148,10 +143,10 @@ module _ (words refusals : List ℕ) (code : ℕ) (depth : Depth) (rule : Start)
         kept = final-kept cs;
         count = final-count cs;
         build = b;
-        listed = λ z. b .descendants z rank lower upper out;
-        unlisted = λ n. b .refused n .descendants rank lower upper out;
-        summed = λ z. b .sums z (first-fit words w (length words / 5)) rank;
-        unsummed = λ n. b .refused n .sums rank;
+        listed = λ z. b .navigation z .descendants rank lower upper out;
+        unlisted = λ n. b .refused n .navigation .descendants rank lower upper out;
+        summed = λ z. b .navigation z .subtree-sums (first-fit words w (length words / 5)) rank;
+        unsummed = λ n. b .refused n .navigation .subtree-sums rank;
       }
 
   moved : (a b : Whole) (r s i j : List ℕ) (t u : List ℤ) (o p : List ℕ) → a ≡ b → r ≡ s → i ≡ j → t ≡ u → o ≡ p → Claim b s j u p → Claim a r i t o

@@ -24,7 +24,8 @@ use Rattle.paths.specs.NodeLaws.{nodes-once}
 use Rattle.paths.specs.BodyLaws.{bodies-length}
 use Rattle.paths.specs.RefusalLaws.{some-top, no-start, some-unreached, shared-is}
 use Rattle.answers.specs.AnswerLaws.{first-step, less}
-use Rattle.guarantee.specs.Guarantee.{Closing, BodyOf, Shares, BuildRefusal}
+use Rattle.guarantee.specs.Builds.{BodyOf, Shares}
+use Rattle.guarantee.specs.Guarantee.{Closing, pathNodes, BuildRefusal}
 use Rattle.guarantee.specs.BodyLaws.{body-of}
 
 pub both : (a b : Bool) {A B : Type 0} → T a ↔ A → T b ↔ B → T (a && b) ↔ (A × B)
@@ -71,10 +72,10 @@ module _ (R : List Row) (start : Row → Bool) (depth : Depth) (o : Orphan) wher
       none = record { numeral = 0; row = 0; size = 0; parent = 0; root = 0; level = 0; closing = false; orphan = false }
 
   -- the body at a place counted from 0
-  body-at : (k : ℕ) → k < length (nodes R start depth o) → (d : Body) → BodyOf R start depth o (nodes R start depth o) (getD (nodes R start depth o) k []) (getD (bodies R start depth o) k d)
+  body-at : (k : ℕ) → k < length (nodes R start depth o) → (d : Body) → BodyOf (pathNodes R start depth o) (nodes R start depth o) (getD (nodes R start depth o) k []) (getD (bodies R start depth o) k d)
   body-at k h d =
       let e : suc k - 1 ≡ k = omega arith in
-      subst (λ n. BodyOf R start depth o (nodes R start depth o) (getD (nodes R start depth o) n []) (getD (bodies R start depth o) n d)) e (body-of R start depth o (suc k) d (omega arith) (omega arith))
+      subst (λ n. BodyOf (pathNodes R start depth o) (nodes R start depth o) (getD (nodes R start depth o) n []) (getD (bodies R start depth o) n d)) e (body-of R start depth o (suc k) d (omega arith) (omega arith))
 
   closing-at : (k : ℕ) → k < length (nodes R start depth o) → (d : Body) → T (getD (bodies R start depth o) k d .closing) ↔ Closing R start depth o (getD (nodes R start depth o) k [])
   closing-at k h d = body-at k h d .closing
@@ -96,9 +97,9 @@ module _ (R : List Row) (start : Row → Bool) (depth : Depth) (o : Orphan) wher
       go (yes l) = increasing-at (λ p q. p ≢ q) W i j [] (nodes-once R start depth o) l k e
       go (no l) = increasing-at (λ p q. p ≢ q) W j i [] (nodes-once R start depth o) (omega arith) h (sym e)
 
-  shares-at : (code : ℕ) (k : ℕ) → k < length (nodes R start depth o) → (d : Body)
-      → T (shared (bodies R start depth o) (getD (bodies R start depth o) k d)) ↔ Shares R code depth start (nodes R start depth o) (getD (nodes R start depth o) k [])
-  shares-at code k h d = (
+  shares-at : (k : ℕ) → k < length (nodes R start depth o) → (d : Body)
+      → T (shared (bodies R start depth o) (getD (bodies R start depth o) k d)) ↔ Shares (pathNodes R start depth o) (nodes R start depth o) (getD (nodes R start depth o) k [])
+  shares-at k h d = (
     (λ t. let r = shared-is bs d k (omega (arith, l)) .0 t in
         let j : ℕ = r .0 in
         let m : j < length W = omega (arith, l, r .1) in
@@ -123,27 +124,26 @@ module _ (R : List Row) (start : Row → Bool) (depth : Depth) (o : Orphan) wher
       l : length bs ≡ length W
       l = bodies-length R start depth o
 
-  wide-at : (code : ℕ) (k : ℕ) → k < length (nodes R start depth o) → (d : Body)
+  wide-at : (k : ℕ) → k < length (nodes R start depth o) → (d : Body)
       → T (ltb 1 (getD (bodies R start depth o) k d .size) && shared (bodies R start depth o) (getD (bodies R start depth o) k d))
-      ↔ ((1 < treeSize (nodes R start depth o) (getD (nodes R start depth o) k [])) × Shares R code depth start (nodes R start depth o) (getD (nodes R start depth o) k []))
-  wide-at code k h d =
+      ↔ ((1 < treeSize (nodes R start depth o) (getD (nodes R start depth o) k [])) × Shares (pathNodes R start depth o) (nodes R start depth o) (getD (nodes R start depth o) k []))
+  wide-at k h d =
       both (ltb 1 (getD (bodies R start depth o) k d .size)) (shared (bodies R start depth o) (getD (bodies R start depth o) k d))
       (let f = less 1 (getD (bodies R start depth o) k d .size) in
       ((λ t. omega (arith, f .0 t, size-at k h d)), (λ u. f .1 (omega (arith, size-at k h d)))))
-      (shares-at code k h d)
+      (shares-at k h d)
 
   -- pairs of a number's test and a triple, flat as the sentences write them
-  some-wide : (code : ℕ)
-      → T (any (λ (b : Body). ltb 1 (b .size) && shared (bodies R start depth o) b) (bodies R start depth o))
-      ↔ ((p : List ℕ) × (p ∈ nodes R start depth o) × (1 < treeSize (nodes R start depth o) p) × Shares R code depth start (nodes R start depth o) p)
-  some-wide code =
+  some-wide : T (any (λ (b : Body). ltb 1 (b .size) && shared (bodies R start depth o) b) (bodies R start depth o))
+      ↔ ((p : List ℕ) × (p ∈ nodes R start depth o) × (1 < treeSize (nodes R start depth o) p) × Shares (pathNodes R start depth o) (nodes R start depth o) p)
+  some-wide =
       let f = some-body (λ (b : Body). ltb 1 (b .size) && shared (bodies R start depth o) b)
-      (λ p. (1 < treeSize (nodes R start depth o) p) × Shares R code depth start (nodes R start depth o) p) (wide-at code) in
+      (λ p. (1 < treeSize (nodes R start depth o) p) × Shares (pathNodes R start depth o) (nodes R start depth o) p) wide-at in
       ((λ t. let r = f .0 t in (r .0, r .1, r .2 .0, r .2 .1)), (λ p. f .1 (p .0, p .1, (p .2, p .3))))
 
 module _ (R : List Row) (code : ℕ) (depth : Depth) (start : Row → Bool) (words totals : ℕ) where
   -- "refused exactly when a refusal sentence applies", and by the first
-  pub first-sentence : BuildRefusal R code depth start (nodes R start depth (orphanChoice (orphanOf code))) words totals (refusalOf R code depth start words totals)
+  pub first-sentence : BuildRefusal R code depth start words totals (nodes R start depth (orphanChoice (orphanOf code))) (refusalOf R code depth start words totals)
   unfolding refusalOf
   first-sentence =
       first-step (refusal6 code) (less 23 code) 6 _
@@ -182,11 +182,11 @@ module _ (R : List Row) (code : ℕ) (depth : Depth) (start : Row → Bool) (wor
           (one-of (ltb words (8 + 6 * length bs)) (ltb totals (length bs + 1)) (less words (8 + 6 * length bs)) (less totals (length bs + 1))))
 
       eleventh : T (refusal11 (multiOf code) bs)
-          ↔ (((multiOf code ≡ 2) × ((p : List ℕ) × (p ∈ W) × Shares R code depth start W p)) ⊎ ((multiOf code ≡ 1) × ((p : List ℕ) × (p ∈ W) × (1 < treeSize W p) × Shares R code depth start W p)))
+          ↔ (((multiOf code ≡ 2) × ((p : List ℕ) × (p ∈ W) × Shares (pathNodes R start depth o) W p)) ⊎ ((multiOf code ≡ 1) × ((p : List ℕ) × (p ∈ W) × (1 < treeSize W p) × Shares (pathNodes R start depth o) W p)))
       eleventh =
           one-of (eqb (multiOf code) 2 && any (shared bs) bs) (eqb (multiOf code) 1 && any (λ (b : Body). ltb 1 (b .size) && shared bs b) bs)
-          (both (eqb (multiOf code) 2) (any (shared bs) bs) (equal (multiOf code) 2) (some-body R start depth o (shared bs) (Shares R code depth start W) (shares-at R start depth o code)))
-          (both (eqb (multiOf code) 1) (any (λ (b : Body). ltb 1 (b .size) && shared bs b) bs) (equal (multiOf code) 1) (some-wide R start depth o code))
+          (both (eqb (multiOf code) 2) (any (shared bs) bs) (equal (multiOf code) 2) (some-body R start depth o (shared bs) (Shares (pathNodes R start depth o) W) (shares-at R start depth o)))
+          (both (eqb (multiOf code) 1) (any (λ (b : Body). ltb 1 (b .size) && shared bs b) bs) (equal (multiOf code) 1) (some-wide R start depth o))
 
       twelfth : T (refusal12 c (orphanRows R start depth)) ↔ ((c ≡ 1) × ((x : ℕ) × Unreached R start depth x))
       twelfth =
