@@ -1,9 +1,10 @@
 -- What `replay_all` answers and leaves, and what demand 3 says of it. Definitions only. Assumes nothing.
 use mathlib.Core.Path.{_≡_}
 use mathlib.Core.Logic.{_≢_}
-use mathlib.Core.Bool.{Bool}
+use mathlib.Core.Bool.{Bool, cond}
 use mathlib.Core.List.{List}
 use Prim.Native.Nat.{ℕ, _<_}
+use lib.Dec.{eqb}
 use lib.IntN.{ℤ, pos}
 use lib.ListN.{length, getD}
 use Rattle.lists.specs.Members.{_∈_}
@@ -12,39 +13,55 @@ use Rattle.board.specs.declared.Row.{Row}
 use Rattle.history.specs.declared.Call.{Call}
 use Rattle.history.specs.declared.Replayed.{Replayed}
 use Rattle.history.specs.Machine.{answers, after, start}
-use Rattle.history.specs.Encoding.{replayedOf, refusalsOf}
 use Rattle.options.specs.declared.Depth.{Depth}
 use Rattle.navigate.specs.Navigate.{descendantsAnswer, descendantsOut}
 use Rattle.sums.specs.Sums.{subtreeAnswer}
 use Rattle.request.specs.declared.Start.{Start}
-use Rattle.request.specs.Build.{startRule, builtOf, indexAfter, totalsAfter}
-use Rattle.guarantee.specs.declared.Whole.{Whole}
+use Rattle.request.specs.Build.{startRule, refusedBy, builtOf, indexAfter, totalsAfter}
+use Rattle.guarantee.specs.declared.ReplayedAll.{ReplayedAll}
 use Rattle.answers.specs.Answers.{Descendants, Sum}
 use Rattle.paths.specs.Bodies.{minutesOf}
 use Rattle.guarantee.specs.Guarantee.{PathBuild, Fits}
 
--- the answers of a build on the board that a replay left, and of the navigation on what that build left
-abbrev pub wholeOf : Replayed → ℕ → Depth → (Row → Bool) → List ℕ → List ℤ → ℕ → ℤ → ℤ → List ℕ → Whole
-wholeOf done code depth starts index totals rank lower upper out =
-    let left : List ℕ = indexAfter (done .board) code depth starts index (length totals) in
+-- nothing was built or asked: each part of the answer bears the replay's number
+abbrev pub notReplayed : ℕ → ReplayedAll
+notReplayed number =
     record {
-      replayed = done .refusal;
-      calls = done .calls;
-      kept = done .board .kept;
-      count = done .board .count;
-      built = builtOf (done .board) code depth starts (length index) (length totals);
-      listed = descendantsAnswer left rank lower upper out;
-      summed = subtreeAnswer left (totalsAfter (done .board) code depth starts (length index) totals) rank;
+      replayed = number;
+      calls = 0;
+      kept = 0;
+      count = 0;
+      built = refusedBy number;
+      listed = record { refusal = number; len = 0 };
+      summed = record { refusal = number; sum = pos 0 };
     }
 
--- `answer` and the four lent slices afterwards are those that the contract of `replay_all` gives
-pub record Runs (words refusals : List ℕ) (code : ℕ) (depth : Depth) (rule : Start) (list index : List ℕ) (totals : List ℤ) (rank : ℕ) (lower upper : ℤ) (out : List ℕ)
-    (answer : Whole) (refusals' index' : List ℕ) (totals' : List ℤ) (out' : List ℕ) : Type 0 where
-  pub whole : answer ≡ wholeOf (replayedOf words (length refusals)) code depth (startRule rule list) index totals rank lower upper out
-  pub refusals-left : refusals' ≡ refusalsOf words refusals
-  pub index-left : index' ≡ indexAfter (replayedOf words (length refusals) .board) code depth (startRule rule list) index (length totals)
-  pub totals-left : totals' ≡ totalsAfter (replayedOf words (length refusals) .board) code depth (startRule rule list) (length index) totals
-  pub out-left : out' ≡ descendantsOut (indexAfter (replayedOf words (length refusals) .board) code depth (startRule rule list) index (length totals)) rank lower upper out
+-- after a replay: a build on the board that it left, and the navigation on what that build left; where the words were refused, slices as they were
+module _ (done : Replayed) (code : ℕ) (depth : Depth) (starts : Row → Bool) (index : List ℕ) (totals : List ℤ) where
+  abbrev pub indexLeft : List ℕ
+  indexLeft = cond (eqb (done .refusal) 0) (indexAfter (done .board) code depth starts index (length totals)) index
+
+  abbrev pub totalsLeft : List ℤ
+  totalsLeft = cond (eqb (done .refusal) 0) (totalsAfter (done .board) code depth starts (length index) totals) totals
+
+  module _ (rank : ℕ) (lower upper : ℤ) (out : List ℕ) where
+    abbrev pub outLeft : List ℕ
+    outLeft = cond (eqb (done .refusal) 0) (descendantsOut (indexAfter (done .board) code depth starts index (length totals)) rank lower upper out) out
+
+    abbrev pub answerOf : ReplayedAll
+    answerOf =
+        let left : List ℕ = indexAfter (done .board) code depth starts index (length totals) in
+        cond (eqb (done .refusal) 0)
+        (record {
+          replayed = done .refusal;
+          calls = done .calls;
+          kept = done .board .kept;
+          count = done .board .count;
+          built = builtOf (done .board) code depth starts (length index) (length totals);
+          listed = descendantsAnswer left rank lower upper out;
+          summed = subtreeAnswer left (totalsAfter (done .board) code depth starts (length index) totals) rank;
+        })
+        (notReplayed (done .refusal))
 
 -- every number of the list is a u32, as in every slice that code can be handed
 abbrev pub AllWords : List ℕ → Type 0
@@ -52,7 +69,7 @@ AllWords words = (k : ℕ) → getD words k 0 < 4294967296
 
 -- "Demand 3 is a single claim about the whole list of calls", of the calls cs that the words tell: `answer` and the slices afterwards are the plain machine's and the paper's
 pub record Demand3 (cs : List Call) (refusals : List ℕ) (code : ℕ) (depth : Depth) (rule : Start) (list index : List ℕ) (totals : List ℤ) (rank : ℕ) (lower upper : ℤ) (out : List ℕ)
-    (answer : Whole) (refusals' index' : List ℕ) (totals' : List ℤ) (out' : List ℕ) : Type 0 where
+    (answer : ReplayedAll) (refusals' index' : List ℕ) (totals' : List ℤ) (out' : List ℕ) : Type 0 where
   pub calls : answer .calls ≡ length cs
   pub edits : refusals' ≡ front (answers start cs) refusals
   pub kept : answer .kept ≡ length (after start cs .earlier)

@@ -1,7 +1,7 @@
 -- `replay_all` gives what its contract says, and that is what demand 3 says of the calls that the words tell. Assumes nothing.
 use mathlib.Core.Path.{_≡_, refl, sym, ap, subst, _∙_}
 use mathlib.Core.Bool.{Bool, true, false, cond}
-use mathlib.Core.Logic.{_⊎_, inl, inr}
+use mathlib.Core.Logic.{_⊎_, inl, inr, _≢_}
 use mathlib.Core.List.{List, [], _∷_}
 use Prim.Native.Nat.{ℕ, zero, suc, _+_, _*_, _/_, _<_}
 use native.Mathlib.Omega.{arith}
@@ -11,7 +11,7 @@ use mir.Syntax.{w32}
 use mir.Val.{toZ}
 use mir.Facts.{sfits-toZ}
 use lib.ListN.{length, length-take}
-use borrow.Author.Tests.{eq-eqb, eqb-true}
+use borrow.Author.Tests.{eq-eqb, ne-eqb, eqb-true}
 use Rattle.lists.specs.Members.{_∈_, append-out}
 use Rattle.lists.specs.Stores.{front}
 use Rattle.board.specs.declared.Row.{Row}
@@ -21,7 +21,7 @@ use Rattle.history.specs.declared.Call.the-variants.{Add, Withdraw, Remark, Und
 use Rattle.history.specs.declared.Replayed.{Replayed}
 use Rattle.history.specs.Machine.{answers, after, start}
 use Rattle.history.specs.Calls.{final}
-use Rattle.history.specs.Encoding.{callOf, callAt, firstCalls, decoded, replayRefusal, replayedOf}
+use Rattle.history.specs.Encoding.{callOf, callAt, firstCalls, decoded, replayRefusal, replayedOf, refusalsOf}
 use Rattle.history.specs.Simulation.{final-rows, final-kept, final-valid}
 use Rattle.history.specs.Replays.{length-first, replay-simulates}
 use Rattle.options.specs.declared.Depth.{Depth}
@@ -33,61 +33,83 @@ use Rattle.answers.specs.PathSumLaws.{small-stays}
 use Rattle.request.specs.declared.Start.{Start}
 use Rattle.request.specs.declared.Built.{Built}
 use Rattle.request.specs.Build.{startRule, builtOf, indexAfter, totalsAfter}
-use Rattle.guarantee.specs.declared.Whole.{Whole}
+use Rattle.guarantee.specs.declared.ReplayedAll.{ReplayedAll}
 use Rattle.guarantee.specs.Guarantee.{Fits, Guarantee}
 use Rattle.guarantee.specs.GuaranteeLaws.{guarantee}
-use Rattle.guarantee.specs.Running.{wholeOf, Runs, AllWords, Demand3}
+use Rattle.guarantee.specs.Running.{notReplayed, indexLeft, totalsLeft, outLeft, answerOf, AllWords, Demand3}
 
--- ---- the answers one after another
+-- ---- after a replay
 
-module _ (done full : Replayed) (e : done ≡ full) (code : ℕ) (depth : Depth) (starts : Row → Bool) (index : List ℕ) (totals : List ℤ) where
-  pub index-full : (i : List ℕ) → i ≡ indexAfter (done .board) code depth starts index (length totals) → i ≡ indexAfter (full .board) code depth starts index (length totals)
-  index-full i ei = ei ∙ ap (λ (d : Replayed). indexAfter (d .board) code depth starts index (length totals)) e
+-- `answer` and three lent slices afterwards are what the contract of `replay_all` says of a replay
+pub record Runs (done : Replayed) (code : ℕ) (depth : Depth) (starts : Row → Bool) (index : List ℕ) (totals : List ℤ) (rank : ℕ) (lower upper : ℤ) (out : List ℕ)
+    (answer : ReplayedAll) (index' : List ℕ) (totals' : List ℤ) (out' : List ℕ) : Type 0 where
+  pub answer-is : answer ≡ answerOf done code depth starts index totals rank lower upper out
+  pub index-is : index' ≡ indexLeft done code depth starts index totals
+  pub totals-is : totals' ≡ totalsLeft done code depth starts index totals
+  pub out-is : out' ≡ outLeft done code depth starts index totals rank lower upper out
 
-  pub totals-full : (t : List ℤ) → t ≡ totalsAfter (done .board) code depth starts (length index) totals → t ≡ totalsAfter (full .board) code depth starts (length index) totals
-  totals-full t et = et ∙ ap (λ (d : Replayed). totalsAfter (d .board) code depth starts (length index) totals) e
+module _ (done : Replayed) (code : ℕ) (depth : Depth) (starts : Row → Bool) (index : List ℕ) (totals : List ℤ) (rank : ℕ) (lower upper : ℤ) (out : List ℕ) where
+  abbrev Run : ReplayedAll → List ℕ → List ℤ → List ℕ → Type 0
+  Run = Runs done code depth starts index totals rank lower upper out
 
-  pub built-full : (b : Built) → b ≡ builtOf (done .board) code depth starts (length index) (length totals) → b ≡ builtOf (full .board) code depth starts (length index) (length totals)
-  built-full b eb = eb ∙ ap (λ (d : Replayed). builtOf (d .board) code depth starts (length index) (length totals)) e
+  -- the build and the calls of navigation one after another
+  pub replayed-runs : done .refusal ≡ 0 → (lo hi : ℤ) → lo ≡ lower → hi ≡ upper → (b : Built) (i : List ℕ) (t : List ℤ) (l : Listed) (o : List ℕ) (s : Summed)
+      → b ≡ builtOf (done .board) code depth starts (length index) (length totals)
+      → i ≡ indexAfter (done .board) code depth starts index (length totals)
+      → t ≡ totalsAfter (done .board) code depth starts (length index) totals
+      → l ≡ descendantsAnswer i rank lo hi out → o ≡ descendantsOut i rank lo hi out → s ≡ subtreeAnswer i t rank
+      → Run (record { replayed = done .refusal; calls = done .calls; kept = done .board .kept; count = done .board .count; built = b; listed = l; summed = s }) i t o
+  replayed-runs z lo hi at-lower at-upper b i t l o s eb ei et el eo es =
+      let left : List ℕ = indexAfter (done .board) code depth starts index (length totals) in
+      let yes : eqb (done .refusal) 0 ≡ true = eq-eqb (done .refusal) 0 z in
+      let il : l ≡ descendantsAnswer left rank lower upper out
+      = el ∙ ap (λ (x : ℤ). descendantsAnswer i rank x hi out) at-lower ∙ ap (λ (x : ℤ). descendantsAnswer i rank lower x out) at-upper ∙ ap (λ (x : List ℕ). descendantsAnswer x rank lower upper out) ei in
+      let io : o ≡ descendantsOut left rank lower upper out
+      = eo ∙ ap (λ (x : ℤ). descendantsOut i rank x hi out) at-lower ∙ ap (λ (x : ℤ). descendantsOut i rank lower x out) at-upper ∙ ap (λ (x : List ℕ). descendantsOut x rank lower upper out) ei in
+      let is : s ≡ subtreeAnswer left (totalsAfter (done .board) code depth starts (length index) totals) rank
+      = es ∙ ap (λ (x : List ℕ). subtreeAnswer x t rank) ei ∙ ap (λ (x : List ℤ). subtreeAnswer left x rank) et in
+      record {
+        answer-is = rw yes (λ k. record { replayed = done .refusal; calls = done .calls; kept = done .board .kept; count = done .board .count; built = eb k; listed = il k; summed = is k });
+        index-is = rw yes ei;
+        totals-is = rw yes et;
+        out-is = rw yes io;
+      }
 
-  module _ (rank : ℕ) (lower upper lo hi : ℤ) (out i : List ℕ) (at-lower : lo ≡ lower) (at-upper : hi ≡ upper) where
-    pub whole-full : (b : Built) (t : List ℤ) (l : Listed) (s : Summed) → b ≡ builtOf (done .board) code depth starts (length index) (length totals)
-        → i ≡ indexAfter (done .board) code depth starts index (length totals)
-        → t ≡ totalsAfter (done .board) code depth starts (length index) totals
-        → l ≡ descendantsAnswer i rank lo hi out → s ≡ subtreeAnswer i t rank
-        → _≡_ {A = Whole} (record { replayed = done .refusal; calls = done .calls; kept = done .board .kept; count = done .board .count; built = b; listed = l; summed = s })
-        (wholeOf full code depth starts index totals rank lower upper out)
-    whole-full b t l s eb ei et el es =
-        let ib = built-full b eb in
-        let ii = index-full i ei in
-        let it = totals-full t et in
-        let il : l ≡ descendantsAnswer (indexAfter (full .board) code depth starts index (length totals)) rank lower upper out
-        = el ∙ ap (λ (x : ℤ). descendantsAnswer i rank x hi out) at-lower ∙ ap (λ (x : ℤ). descendantsAnswer i rank lower x out) at-upper ∙ ap (λ (x : List ℕ). descendantsAnswer x rank lower upper out) ii in
-        let is : s ≡ subtreeAnswer (indexAfter (full .board) code depth starts index (length totals)) (totalsAfter (full .board) code depth starts (length index) totals) rank
-        = es ∙ ap (λ (x : List ℕ). subtreeAnswer x t rank) ii ∙ ap (λ (x : List ℤ). subtreeAnswer (indexAfter (full .board) code depth starts index (length totals)) x rank) it in
-        λ k. record { replayed = e k .refusal; calls = e k .calls; kept = e k .board .kept; count = e k .board .count; built = ib k; listed = il k; summed = is k }
+  pub refused-runs : done .refusal ≢ 0 → (answer : ReplayedAll) → answer ≡ notReplayed (done .refusal) → Run answer index totals out
+  refused-runs n answer e =
+      let no : eqb (done .refusal) 0 ≡ false = ne-eqb (done .refusal) 0 n in
+      record { answer-is = rw no e; index-is = rw no refl; totals-is = rw no refl; out-is = rw no refl }
 
-    pub out-full : (o : List ℕ) → i ≡ indexAfter (done .board) code depth starts index (length totals) → o ≡ descendantsOut i rank lo hi out
-        → o ≡ descendantsOut (indexAfter (full .board) code depth starts index (length totals)) rank lower upper out
-    out-full o ei eo =
-        eo ∙ ap (λ (x : ℤ). descendantsOut i rank x hi out) at-lower ∙ ap (λ (x : ℤ). descendantsOut i rank lower x out) at-upper ∙ ap (λ (x : List ℕ). descendantsOut x rank lower upper out) (index-full i ei)
+  -- an answer that bears no number of the replay
+  runs-replayed : (answer : ReplayedAll) (i : List ℕ) (t : List ℤ) (o : List ℕ) → Run answer i t o → answer .replayed ≡ 0 → done .refusal ≡ 0
+  runs-replayed answer i t o r z = go (eqb (done .refusal) 0) refl _ (r .answer-is)
+    where
+      go : (b : Bool) → eqb (done .refusal) 0 ≡ b → (x : ReplayedAll) → answer ≡ cond b x (notReplayed (done .refusal)) → done .refusal ≡ 0
+      go true q x e = eqb-true (done .refusal) 0 q
+      go false q x e = sym (ap (λ (w : ReplayedAll). w .replayed) e) ∙ z
+
+pub runs-moved : (done full : Replayed) → done ≡ full → (code : ℕ) (depth : Depth) (starts : Row → Bool) (index : List ℕ) (totals : List ℤ) (rank : ℕ) (lower upper : ℤ) (out : List ℕ)
+    (answer : ReplayedAll) (index' : List ℕ) (totals' : List ℤ) (out' : List ℕ)
+    → Runs done code depth starts index totals rank lower upper out answer index' totals' out' → Runs full code depth starts index totals rank lower upper out answer index' totals' out'
+runs-moved done full e code depth starts index totals rank lower upper out answer index' totals' out' =
+    subst (λ (d : Replayed). Runs d code depth starts index totals rank lower upper out answer index' totals' out') e
 
 -- ---- the replay's board
 
 -- what a replay that isn't refused answers
-abbrev ranOf : List ℕ → Replayed
-ranOf words = record { refusal = 0; calls = length words / 5; board = final emptyOf (decoded words) }
+abbrev allReplayed : List ℕ → Replayed
+allReplayed words = record { refusal = 0; calls = length words / 5; board = final emptyOf (decoded words) }
 
 replayed-zero : (words : List ℕ) (room : ℕ) → replayedOf words room .refusal ≡ 0 → replayRefusal words room ≡ 0
 unfolding replayedOf
 replayed-zero words room = go (eqb (replayRefusal words room) 0) refl
   where
     go : (t : Bool) → eqb (replayRefusal words room) 0 ≡ t
-        → cond {A = Replayed} t (ranOf words) (record { refusal = replayRefusal words room; calls = 0; board = emptyOf }) .refusal ≡ 0 → replayRefusal words room ≡ 0
+        → cond {A = Replayed} t (allReplayed words) (record { refusal = replayRefusal words room; calls = 0; board = emptyOf }) .refusal ≡ 0 → replayRefusal words room ≡ 0
     go true q z = eqb-true (replayRefusal words room) 0 q
     go false q z = z
 
-replayed-is : (words : List ℕ) (room : ℕ) → replayRefusal words room ≡ 0 → replayedOf words room ≡ ranOf words
+replayed-is : (words : List ℕ) (room : ℕ) → replayRefusal words room ≡ 0 → replayedOf words room ≡ allReplayed words
 unfolding replayedOf
 replayed-is words room e =
     let t : eqb (replayRefusal words room) 0 ≡ true = eq-eqb (replayRefusal words room) 0 e in
@@ -127,14 +149,12 @@ module _ (words refusals : List ℕ) (code : ℕ) (depth : Depth) (rule : Start)
   abbrev cs : List Call
   cs = decoded words
 
-  abbrev indexLeft : List ℕ
-  indexLeft = indexAfter (final emptyOf cs) code depth (startRule rule list) index (length totals)
-
-  abbrev Claim : Whole → List ℕ → List ℕ → List ℤ → List ℕ → Type 0
+  abbrev Claim : ReplayedAll → List ℕ → List ℕ → List ℤ → List ℕ → Type 0
   Claim = Demand3 cs refusals code depth rule list index totals rank lower upper out
 
-  claim : Guarantee cs → AllWords words → Claim (wholeOf (ranOf words) code depth (startRule rule list) index totals rank lower upper out)
-      (front (answers start cs) refusals) indexLeft (totalsAfter (final emptyOf cs) code depth (startRule rule list) (length index) totals) (descendantsOut indexLeft rank lower upper out)
+  claim : Guarantee cs → AllWords words → Claim (answerOf (allReplayed words) code depth (startRule rule list) index totals rank lower upper out)
+      (front (answers start cs) refusals) (indexLeft (allReplayed words) code depth (startRule rule list) index totals) (totalsLeft (allReplayed words) code depth (startRule rule list) index totals)
+      (outLeft (allReplayed words) code depth (startRule rule list) index totals rank lower upper out)
   claim g w =
       let b = g .build code depth rule list index totals in
       record {
@@ -149,26 +169,23 @@ module _ (words refusals : List ℕ) (code : ℕ) (depth : Depth) (rule : Start)
         unsummed = λ n. b .refused n .navigation .subtree-sums rank;
       }
 
-  moved : (a b : Whole) (r s i j : List ℕ) (t u : List ℤ) (o p : List ℕ) → a ≡ b → r ≡ s → i ≡ j → t ≡ u → o ≡ p → Claim b s j u p → Claim a r i t o
+  moved : (a b : ReplayedAll) (r s i j : List ℕ) (t u : List ℤ) (o p : List ℕ) → a ≡ b → r ≡ s → i ≡ j → t ≡ u → o ≡ p → Claim b s j u p → Claim a r i t o
   moved a b r s i j t u o p ea er ei et eo x =
-      subst (λ (y : Whole). Claim y r i t o) (sym ea)
+      subst (λ (y : ReplayedAll). Claim y r i t o) (sym ea)
       (subst (λ (y : List ℕ). Claim b y i t o) (sym er)
       (subst (λ (y : List ℕ). Claim b s y t o) (sym ei)
       (subst (λ (y : List ℤ). Claim b s j y o) (sym et)
       (subst (λ (y : List ℕ). Claim b s j u y) (sym eo) x))))
 
   -- what `replay_all` answers and leaves, by its contract, where the words are some calls' and the replay isn't refused, is what demand 3 says of these calls
-  pub replay-all-guaranteed : (answer : Whole) (refusals' index' : List ℕ) (totals' : List ℤ) (out' : List ℕ)
-      → Runs words refusals code depth rule list index totals rank lower upper out answer refusals' index' totals' out'
+  pub replay-all-guaranteed : (answer : ReplayedAll) (refusals' index' : List ℕ) (totals' : List ℤ) (out' : List ℕ)
+      → Runs (replayedOf words (length refusals)) code depth (startRule rule list) index totals rank lower upper out answer index' totals' out'
+      → refusals' ≡ refusalsOf words refusals
       → AllWords words → answer .replayed ≡ 0
       → Claim answer refusals' index' totals' out'
-  replay-all-guaranteed answer refusals' index' totals' out' r w z =
+  replay-all-guaranteed answer refusals' index' totals' out' r er w z =
       let s : Row → Bool = startRule rule list in
-      let no = replayed-zero words (length refusals) (sym (ap (λ (w : Whole). w .replayed) (r .whole)) ∙ z) in
-      let e = replayed-is words (length refusals) no in
-      let ew = r .whole ∙ ap (λ (d : Replayed). wholeOf d code depth s index totals rank lower upper out) e in
-      let ei = index-full _ _ e code depth s index totals index' (r .index-left) in
-      let et = totals-full _ _ e code depth s index totals totals' (r .totals-left) in
-      let eo = r .out-left ∙ ap (λ (d : Replayed). descendantsOut (indexAfter (d .board) code depth s index (length totals)) rank lower upper out) e in
-      let er = r .refusals-left ∙ replay-simulates words refusals no .refusals in
-      moved _ _ _ _ _ _ _ _ _ _ ew er ei et eo (claim (guarantee cs) w)
+      let none = runs-replayed (replayedOf words (length refusals)) code depth s index totals rank lower upper out answer index' totals' out' r z in
+      let no = replayed-zero words (length refusals) none in
+      let full = runs-moved _ _ (replayed-is words (length refusals) no) code depth s index totals rank lower upper out answer index' totals' out' r in
+      moved _ _ _ _ _ _ _ _ _ _ (full .answer-is) (er ∙ replay-simulates words refusals no .refusals) (full .index-is) (full .totals-is) (full .out-is) (claim (guarantee cs) w)

@@ -2,9 +2,8 @@
 ghost use mathlib.Core.Path.{_≡_};
 ghost use lib.ListN.{length};
 ghost use Rattle.history.specs.Encoding.{decoded, replayedOf, refusalsOf};
-ghost use Rattle.navigate.specs.Navigate.{descendantsOut};
-ghost use Rattle.request.specs.Build.{startRule, indexAfter, totalsAfter};
-ghost use Rattle.guarantee.specs.Running.{wholeOf, Demand3};
+ghost use Rattle.request.specs.Build.{startRule};
+ghost use Rattle.guarantee.specs.Running.{notReplayed, answerOf, indexLeft, totalsLeft, outLeft, Demand3};
 use navigate::Listed;
 use options::Depth;
 use request::Built;
@@ -13,7 +12,7 @@ use sums::Summed;
 
 // What `replay_all` answers: the replay's own refusal number (101 to 103), or 0, the number of calls, the board's earlier row lists and rows after them, and the answers of the build, the descendants and the subtree sum.
 #[repr(C)]
-pub struct Whole {
+pub struct ReplayedAll {
     pub replayed: u32,
     pub calls: usize,
     pub kept: usize,
@@ -23,7 +22,36 @@ pub struct Whole {
     pub summed: Summed,
 }
 
-// Runs the calls that the words tell from the empty board, builds the board they leave, and asks for the descendants and the subtree sum of a rank. Where the replay is refused the board is empty.
+// What `replay_all` answers to words that the replay refuses: nothing was built or asked, and each part bears the replay's number.
+fn not_replayed(replayed: u32) -> ReplayedAll
+    ensures { λ r. ⌜ r ≡ notReplayed replayed ⌝ }
+{
+    let built = Built {
+        refusal: replayed,
+        nodes: 0,
+        left: 0,
+    };
+    let listed = Listed {
+        refusal: replayed,
+        len: 0,
+    };
+    let summed = Summed {
+        refusal: replayed,
+        sum: 0,
+    };
+    ReplayedAll {
+        replayed,
+        calls: 0,
+        kept: 0,
+        count: 0,
+        built,
+        listed,
+        summed,
+    }
+}
+
+// Runs the calls that the words tell from the empty board, builds the board they leave, and asks for the descendants and the subtree sum of a rank. Where the replay is refused nothing is built or
+// asked, and all slices stay as they were.
 pub fn replay_all(
     words: &[u32],
     refusals: &mut [u32],
@@ -37,16 +65,19 @@ pub fn replay_all(
     lower: i32,
     upper: i32,
     out: &mut [u32],
-) -> Whole
-    ensures { λ r. ⌜ r ≡ wholeOf (replayedOf (now (words .entry)) (length (now (refusals .entry)))) code depth (startRule start (now (list .entry))) (now (index .entry)) (now (totals .entry)) rank lower upper (now (out .entry)) ⌝ }
+) -> ReplayedAll
+    ensures { λ r. ⌜ r ≡ answerOf (replayedOf (now (words .entry)) (length (now (refusals .entry)))) code depth (startRule start (now (list .entry))) (now (index .entry)) (now (totals .entry)) rank lower upper (now (out .entry)) ⌝ }
     ensures { λ _. ⌜ now (refusals .exit) ≡ refusalsOf (now (words .entry)) (now (refusals .entry)) ⌝ }
-    ensures { λ _. ⌜ now (index .exit) ≡ indexAfter (replayedOf (now (words .entry)) (length (now (refusals .entry))) .board) code depth (startRule start (now (list .entry))) (now (index .entry)) (length (now (totals .entry))) ⌝ }
-    ensures { λ _. ⌜ now (totals .exit) ≡ totalsAfter (replayedOf (now (words .entry)) (length (now (refusals .entry))) .board) code depth (startRule start (now (list .entry))) (length (now (index .entry))) (now (totals .entry)) ⌝ }
-    ensures { λ _. ⌜ now (out .exit) ≡ descendantsOut (indexAfter (replayedOf (now (words .entry)) (length (now (refusals .entry))) .board) code depth (startRule start (now (list .entry))) (now (index .entry)) (length (now (totals .entry)))) rank lower upper (now (out .entry)) ⌝ }
+    ensures { λ _. ⌜ now (index .exit) ≡ indexLeft (replayedOf (now (words .entry)) (length (now (refusals .entry)))) code depth (startRule start (now (list .entry))) (now (index .entry)) (now (totals .entry)) ⌝ }
+    ensures { λ _. ⌜ now (totals .exit) ≡ totalsLeft (replayedOf (now (words .entry)) (length (now (refusals .entry)))) code depth (startRule start (now (list .entry))) (now (index .entry)) (now (totals .entry)) ⌝ }
+    ensures { λ _. ⌜ now (out .exit) ≡ outLeft (replayedOf (now (words .entry)) (length (now (refusals .entry)))) code depth (startRule start (now (list .entry))) (now (index .entry)) (now (totals .entry)) rank lower upper (now (out .entry)) ⌝ }
     ensures { λ r. ⌜ (r .replayed ≡ 0 → Demand3 (decoded (now (words .entry))) (now (refusals .entry)) code depth start (now (list .entry)) (now (index .entry)) (now (totals .entry)) rank lower upper (now (out .entry)) r (now (refusals .exit)) (now (index .exit)) (now (totals .exit)) (now (out .exit))) ⌝ }
 {
     let done = history::replay(words, refusals);
     let replayed = done.refusal;
+    if replayed != 0 {
+        return not_replayed(replayed);
+    }
     let calls = done.calls;
     let board = done.board;
     let kept = board.kept;
@@ -54,7 +85,7 @@ pub fn replay_all(
     let built = build::build(board, code, depth, start, list, index, totals);
     let listed = navigate::descendants(index, rank, lower, upper, out);
     let summed = sums::subtree_sum(index, totals, rank);
-    Whole {
+    ReplayedAll {
         replayed,
         calls,
         kept,

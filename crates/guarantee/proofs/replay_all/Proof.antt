@@ -2,12 +2,31 @@
 use denote.Ref.{now}
 use mir.Facts.{toZ-ofZ}
 use borrow.Author.Needs.{needs}
-use Rattle.guarantee.specs.RunningLaws.{replay-all-guaranteed, index-full, totals-full, whole-full, out-full}
+use Rattle.guarantee.specs.RunningLaws.{replayed-runs, refused-runs, runs-moved, replay-all-guaranteed}
 use Rattle.guarantee.proofs.replay_all.Statement.{statement}
 use Rattle.guarantee.proofs.replay_all.Tie as tie
 
 replay-requires : tie.Need-replay-requires
 replay-requires c κs = search needs
+
+not-replayed-requires : tie.Need-not-replayed-requires
+not-replayed-requires c κs = search needs
+
+same-length : tie.Need-same-length
+same-length c = search needs
+
+returns : tie.Need-returns
+returns c =
+    let y = c .before .before .before .before in
+    let w = y .before .before .before .before .before .before in
+    let a = w .before .args in
+    let p = y .replay .ensures in
+    let runs = runs-moved _ _ (p .0) (a .code) (a .depth) _ (now (a .index)) (now (a .totals)) (a .rank) (a .lower) (a .upper) (now (a .out)) _ _ _ _
+    (refused-runs _ (a .code) (a .depth) _ (now (a .index)) (now (a .totals)) (a .rank) (a .lower) (a .upper) (now (a .out)) (c .before .if1 .taken) _ (c .not-replayed .ensures)) in
+    let demand =
+    replay-all-guaranteed (now (a .words)) (now (a .refusals)) (a .code) (a .depth) (a .start) (now (a .list)) (now (a .index)) (now (a .totals)) (a .rank) (a .lower) (a .upper) (now (a .out)) _ _ _ _ _
+    runs (p .1) (λ k. w .shared-slice-known .given k .fits) in
+    (runs .answer-is, (p .1, (runs .index-is, (runs .totals-is, (runs .out-is, demand)))))
 
 build-requires : tie.Need-build-requires
 build-requires c κs = search needs
@@ -18,9 +37,6 @@ descendants-requires c κs = search needs
 subtree-sum-requires : tie.Need-subtree-sum-requires
 subtree-sum-requires c κs = search needs
 
-same-length : tie.Need-same-length
-same-length c = search needs
-
 same-length-2 : tie.Need-same-length-2
 same-length-2 c = search needs
 
@@ -30,37 +46,42 @@ same-length-3 c = search needs
 same-length-4 : tie.Need-same-length-4
 same-length-4 c = search needs
 
-returns : tie.Need-returns
-returns c =
+same-length-5 : tie.Need-same-length-5
+same-length-5 c = search needs
+
+returns-2 : tie.Need-returns-2
+returns-2 c =
     let d = c .before .before .before .before .before in
     let m = d .before .before .before .before .before .before in
-    let y = m .before .before .before .before .before .before in
-    let z = y .before .before .before .before .before .before .before in
+    let i = m .before .before .before .before in
+    let y = i .before .before .before in
+    let w = y .before .before .before .before .before .before in
+    let z = w .before in
     let a = z .args in
-    let lower = toZ-ofZ (z .fits .lower) in
-    let upper = toZ-ofZ (z .fits .upper) in
     let p = y .replay .ensures in
     let b = m .build .ensures in
     let l = d .descendants .ensures in
-    let whole = whole-full _ _ (p .0) (a .code) (a .depth) _ (now (a .index)) (now (a .totals)) (a .rank) (a .lower) (a .upper) _ _ (now (a .out)) _ lower upper _ _ _ _ (b .0) (b .1 .0) (b .1 .1) (l .0) (c .subtree-sum .ensures) in
-    let index = index-full _ _ (p .0) (a .code) (a .depth) _ (now (a .index)) (now (a .totals)) _ (b .1 .0) in
-    let totals = totals-full _ _ (p .0) (a .code) (a .depth) _ (now (a .index)) (now (a .totals)) _ (b .1 .1) in
-    let out = out-full _ _ (p .0) (a .code) (a .depth) _ (now (a .index)) (now (a .totals)) (a .rank) (a .lower) (a .upper) _ _ (now (a .out)) _ lower upper _ (b .1 .0) (l .1) in
+    let runs = runs-moved _ _ (p .0) (a .code) (a .depth) _ (now (a .index)) (now (a .totals)) (a .rank) (a .lower) (a .upper) (now (a .out)) _ _ _ _
+    (replayed-runs _ (a .code) (a .depth) _ (now (a .index)) (now (a .totals)) (a .rank) (a .lower) (a .upper) (now (a .out)) (i .if1 .left) _ _ (toZ-ofZ (z .fits .lower)) (toZ-ofZ (z .fits .upper)) _ _ _ _ _ _
+    (b .0) (b .1 .0) (b .1 .1) (l .0) (l .1) (c .subtree-sum .ensures)) in
     let demand =
     replay-all-guaranteed (now (a .words)) (now (a .refusals)) (a .code) (a .depth) (a .start) (now (a .list)) (now (a .index)) (now (a .totals)) (a .rank) (a .lower) (a .upper) (now (a .out)) _ _ _ _ _
-    (record { whole = whole; refusals-left = p .1; index-left = index; totals-left = totals; out-left = out }) (λ k. y .before .before .before .before .before .before .shared-slice-known .given k .fits) in
-    (whole, (p .1, (index, (totals, (out, demand)))))
+    runs (p .1) (λ k. w .shared-slice-known .given k .fits) in
+    (runs .answer-is, (p .1, (runs .index-is, (runs .totals-is, (runs .out-is, demand)))))
 
 pub replay-all-spec : {M : Type 1} → statement M
 replay-all-spec =
     tie.close
     (tie.spec
     replay-requires
+    not-replayed-requires
+    same-length
+    returns
     build-requires
     descendants-requires
     subtree-sum-requires
-    same-length
     same-length-2
     same-length-3
     same-length-4
-    returns)
+    same-length-5
+    returns-2)
