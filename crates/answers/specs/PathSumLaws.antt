@@ -29,7 +29,7 @@ use Rattle.answers.specs.RankLaws.{falling-out, sum-ranks}
 use Rattle.answers.specs.ClimbLaws.{climb-goes, chain-here}
 
 -- minutes of 32 bits don't leave i32
-pub small-stays : (z : ℤ) → mag z < 2147483648 → leaves32 z ≡ false
+small-stays : (z : ℤ) → mag z < 2147483648 → leaves32 z ≡ false
 unfolding leaves32
 small-stays (pos n) h = rw (le-ltb 2147483647 n (omega arith))
 small-stays (negsuc n) h = le-ltb 2147483647 n (omega arith)

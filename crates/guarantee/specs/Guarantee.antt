@@ -2,20 +2,22 @@
 -- any sound board. These are definitions, in the words of "What demand 3 compares"; that they hold is `guarantee` and `sound-build` in GuaranteeLaws. Assumes nothing.
 use mathlib.Core.Path.{_≡_}
 use mathlib.Core.Logic.{_⊎_, _≢_}
-use mathlib.Core.Bool.{Bool, true, false}
+use mathlib.Core.Bool.{Bool, true}
 use mathlib.Core.List.{List, [], _∷_}
 use Prim.Native.Nat.{ℕ, _+_, _*_, _<_}
 use lib.Dec.{T}
 use lib.IntN.{ℤ}
 use lib.ListN.{length}
+use mir.Syntax.{w32}
+use mir.Val.{SFits}
 use Rattle.lists.specs.Members.{_∈_}
 use Rattle.board.specs.declared.Row.{Row}
 use Rattle.board.specs.declared.Board.{Board}
 use Rattle.board.specs.Edits.{emptyOf, rowsOf, soundOf}
 use Rattle.history.specs.declared.Call.{Call}
-use Rattle.history.specs.declared.Call.the-variants.{Add, Withdraw, Remark, Undo}
 use Rattle.history.specs.Machine.{after, start}
 use Rattle.history.specs.Calls.{final}
+use Rattle.history.specs.Encoding.{AllFit}
 use Rattle.history.specs.Simulation.{Simulates}
 use Rattle.options.specs.declared.Depth.{Depth}
 use Rattle.options.specs.Options.{orphanOf, multiOf, cycleOf}
@@ -26,7 +28,6 @@ use Rattle.paths.specs.Paths as paths
 use Rattle.paths.specs.Bodies.{minutesOf, orphanCloses}
 use Rattle.paths.specs.Refusals.{orphanChoice, given}
 use Rattle.answers.specs.Answers.{First, noOther}
-use Rattle.sums.specs.Sums.{leaves32}
 use Rattle.request.specs.declared.Start.{Start}
 use Rattle.request.specs.declared.Built.{Built}
 use Rattle.request.specs.Build.{startRule, builtOf, indexAfter, totalsAfter}
@@ -95,25 +96,18 @@ BuildOn b R fits = (code : ℕ) (depth : Depth) (rule : Start) (list index : Lis
     index (indexAfter b code depth (startRule rule list) index (length totals))
     totals (totalsAfter b code depth (startRule rule list) (length index) totals)
 
--- ---- minutes are i32, as in every row and every call that code can be handed: the definitions allow any integer, and totals of larger minutes could pass 2^47, sentence 15's bound
-
-abbrev pub RowsFit : List Row → Type 0
-RowsFit R = (r : Row) → r ∈ R → leaves32 (r .minutes) ≡ false
-
-abbrev pub Fits : Call → Type 0
-Fits (Add r) = leaves32 (r .minutes) ≡ false
-Fits (Withdraw k) = Unit {0}
-Fits (Remark k minutes) = leaves32 minutes ≡ false
-Fits Undo = Unit {0}
-
 -- ---- every sound board, also one that no list of calls makes
+
+-- minutes are i32, as in every row that code can be handed: the definitions allow any integer, and totals of larger minutes could pass 2^47, sentence 15's bound
+abbrev pub RowsFit : List Row → Type 0
+RowsFit R = (r : Row) → r ∈ R → SFits w32 (r .minutes)
 
 abbrev pub SoundBuild : Board → Type 0
 SoundBuild b = soundOf b ≡ true → BuildOn b (rowsOf b) (RowsFit (rowsOf b))
 
 -- ---- demand 3
 
--- "Demand 3 is a single claim about the whole list of calls"; R is the plain machine's rows after them
+-- "Demand 3 is a single claim about the whole list of calls"; R is the plain machine's rows after them. `AllFit`: the calls' minutes are i32
 pub record Guarantee (cs : List Call) : Type 0 where
   pub edits : Simulates cs
-  pub build : BuildOn (final emptyOf cs) (after start cs .rows) ((c : Call) → c ∈ cs → Fits c)
+  pub build : BuildOn (final emptyOf cs) (after start cs .rows) (AllFit cs)

@@ -9,7 +9,7 @@ use lib.IntN.{ℤ, pos}
 use lib.ListN.{length, replicate, drop, length-take}
 use borrow.Author.Tests.{eq-eqb, ne-eqb, ltb-false}
 use Rattle.lists.specs.Choice.{or-no}
-use Rattle.lists.specs.Members.{_∈_, Increasing, increasing-filter, numbers, numbers-rising}
+use Rattle.lists.specs.Members.{Increasing, increasing-filter, numbers, numbers-rising}
 use Rattle.lists.specs.Stores.{front, front-is}
 use Rattle.board.specs.declared.Row.{Row}
 use Rattle.board.specs.declared.Board.{Board}
@@ -17,6 +17,7 @@ use Rattle.board.specs.Edits.{emptyOf, rowsOf, soundOf}
 use Rattle.board.specs.Laws.{sound-count}
 use Rattle.history.specs.declared.Call.{Call}
 use Rattle.history.specs.Calls.{final}
+use Rattle.history.specs.Encoding.{AllFit}
 use Rattle.history.specs.Simulation.{simulation, final-rows, final-sound}
 use Rattle.options.specs.declared.Depth.{Depth}
 use Rattle.options.specs.declared.Depth.the-variants.{None, Limit}
@@ -41,10 +42,10 @@ use Rattle.answers.specs.ZeroLaws.{zeros-refused}
 use Rattle.request.specs.declared.Built.{Built}
 use Rattle.request.specs.Build.{startRule, buildRefusal, builtOf, indexAfter, totalsAfter}
 use Rattle.guarantee.specs.Builds.{Accepted, Refused}
-use Rattle.guarantee.specs.Guarantee.{buildNodes, BuildRefusal, PathBuild, BuildOn, RowsFit, Fits, SoundBuild, Guarantee}
+use Rattle.guarantee.specs.Guarantee.{buildNodes, BuildRefusal, PathBuild, BuildOn, RowsFit, SoundBuild, Guarantee}
 use Rattle.guarantee.specs.BodyLaws.{node-list, read-of, described, short}
 use Rattle.guarantee.specs.SentenceLaws.{first-sentence}
-use Rattle.guarantee.specs.MinutesLaws.{minutes-bounded, rows-fit}
+use Rattle.guarantee.specs.MinutesLaws.{rows-fit}
 
 -- sentence 7 doesn't apply, so a depth is given only where there are no orphan nodes
 allowed-here : (depth : Depth) (orphan : ℕ) → refusal7 orphan depth ≡ false → Allowed depth (orphanChoice orphan)
@@ -131,7 +132,7 @@ module _ (R : List Row) (few : length R ≤ 1024) (code : ℕ) (depth : Depth) (
     navigation = λ z. let r = room (sym e ∙ z) in
         subst (λ t. Navigation (minutesOf R) W fits (indexOf t) (totalsOf t)) (sym (eq-eqb q 0 z))
         (navigation-here (nodes-forest R starts depth o) (described R starts depth o (r .allowed)) (short R starts depth o few) (r .small) held
-        (minutesOf R) fits (λ g p m. minutes-fit R (minutes-bounded R (f g)) (last p)) running);
+        (minutesOf R) fits (λ g p m. minutes-fit R (λ r i. f g r i .sfits) (last p)) running);
   }
 
 -- ---- a build on a sound board
@@ -153,6 +154,6 @@ sound-build b sound = build-on b sound (RowsFit (rowsOf b)) (λ f. f)
 pub guarantee : (cs : List Call) → Guarantee cs
 guarantee cs = record {
   edits = simulation cs;
-  build = subst (λ R. BuildOn (final emptyOf cs) R ((c : Call) → c ∈ cs → Fits c)) (final-rows cs)
-      (build-on (final emptyOf cs) (final-sound cs) ((c : Call) → c ∈ cs → Fits c) (λ g. subst RowsFit (sym (final-rows cs)) (rows-fit cs g)));
+  build = subst (λ R. BuildOn (final emptyOf cs) R (AllFit cs)) (final-rows cs)
+      (build-on (final emptyOf cs) (final-sound cs) (AllFit cs) (λ g. subst RowsFit (sym (final-rows cs)) (rows-fit cs g)));
 }

@@ -3,14 +3,11 @@ use mathlib.Core.Path.{_≡_, refl, sym, subst}
 use mathlib.Core.Logic.{_⊎_, inl, inr, ⊎-elim}
 use mathlib.Core.Bool.{Bool, true, false, cond}
 use mathlib.Core.List.{List, [], _∷_, _++_}
-use Prim.Native.Nat.{ℕ, zero, suc, _-_, _<_}
-use native.Mathlib.Omega.{arith}
-use lib.Dec.{ltb, eqb, leb}
-use lib.IntN.{ℤ, pos, negsuc}
-use lib.Signed.{mag}
+use Prim.Native.Nat.{ℕ, zero, suc, _-_}
+use lib.Dec.{eqb, leb}
+use mir.Syntax.{w32}
+use mir.Val.{SFits}
 use lib.ListN.{length, getD, set, take, drop}
-use borrow.Author.Tests.{ltb-false}
-use Rattle.lists.specs.Choice.{or-no}
 use Rattle.lists.specs.Members.{_∈_, append-out, take-in}
 use Rattle.lists.specs.Moves.{without}
 use Rattle.board.specs.declared.Row.{Row}
@@ -19,13 +16,8 @@ use Rattle.board.specs.Edits.{noRow, remarked}
 use Rattle.history.specs.declared.Call.{Call}
 use Rattle.history.specs.declared.Call.the-variants.{Add, Withdraw, Remark, Undo}
 use Rattle.history.specs.Machine.{Machine, Answer, gives, changes, goesBack, answer, after, start}
-use Rattle.sums.specs.Sums.{leaves32}
-use Rattle.guarantee.specs.Guarantee.{RowsFit, Fits}
-
-minutes-small : (z : ℤ) → leaves32 z ≡ false → mag z < 2147483648
-unfolding leaves32
-minutes-small (pos n) e = omega (arith, ltb-false 2147483647 n (or-no (ltb 2147483647 n) _ e .0))
-minutes-small (negsuc n) e = omega (arith, ltb-false 2147483647 n (or-no false (ltb 2147483647 n) e .1))
+use Rattle.history.specs.Encoding.{MinutesFit, AllFit}
+use Rattle.guarantee.specs.Guarantee.{RowsFit}
 
 drop-in : {A : Type 0} (k : ℕ) (l : List A) (x : A) → x ∈ drop k l → x ∈ l
 drop-in zero l x m = m
@@ -38,10 +30,6 @@ set-in (y ∷ l) zero v x (inl e) = inl e
 set-in (y ∷ l) zero v x (inr m) = inr (inr m)
 set-in (y ∷ l) (suc i) v x (inl e) = inr (inl e)
 set-in (y ∷ l) (suc i) v x (inr m) = ⊎-elim (λ e. inl e) (λ k. inr (inr k)) (set-in l i v x m)
-
--- minutes of 32 bits, as a bound on the number
-pub minutes-bounded : (R : List Row) → RowsFit R → (r : Row) → r ∈ R → mag (r .minutes) < 2147483648
-minutes-bounded R h r m = minutes-small (r .minutes) (h r m)
 
 abbrev MachineFits : Machine → Type 0
 MachineFits m = RowsFit (m .rows) × ((l : List Row) → l ∈ m .earlier → RowsFit l)
@@ -61,14 +49,14 @@ without-fits : (R : List Row) (k : ℕ) → RowsFit R → RowsFit (without R k)
 unfolding without
 without-fits R k h r i = ⊎-elim (λ j. h r (take-in k R r j)) (λ j. h r (drop-in (suc k) R r j)) (append-out (take k R) (drop (suc k) R) r i)
 
-step-fits : (m : Machine) (c : Call) → MachineFits m → Fits c → MachineFits (answer m c .machine)
+step-fits : (m : Machine) (c : Call) → MachineFits m → MinutesFit c → MachineFits (answer m c .machine)
 step-fits m (Add r) h f =
     either-fits (eqb (r .numeral) 0) (gives 2 m) _ h
     (either-fits (leb 1024 (length (m .rows))) (gives 3 m) (changes m (m .rows ++ (r ∷ []))) h (changes-fits m (m .rows ++ (r ∷ [])) h added))
   where
     added : RowsFit (m .rows ++ (r ∷ []))
     added x i =
-        ⊎-elim (λ j. h .0 x j) (⊎-elim (λ e. subst (λ (y : Row). leaves32 (y .minutes) ≡ false) (sym e) f) (λ j. absurd j))
+        ⊎-elim (λ j. h .0 x j) (⊎-elim (λ e. subst (λ (y : Row). SFits w32 (y .minutes)) (sym e) f) (λ j. absurd j))
         (append-out (m .rows) (r ∷ []) x i)
 step-fits m (Withdraw k) h f =
     either-fits (noRow (length (m .rows)) k) (gives 4 m) (changes m (without (m .rows) (k - 1))) h
@@ -81,13 +69,13 @@ step-fits m (Remark k minutes) h f =
 
     marked : RowsFit (set (m .rows) (k - 1) new)
     marked x i =
-        ⊎-elim (λ e. subst (λ (y : Row). leaves32 (y .minutes) ≡ false) (sym e) f) (λ j. h .0 x j) (set-in (m .rows) (k - 1) new x i)
+        ⊎-elim (λ e. subst (λ (y : Row). SFits w32 (y .minutes)) (sym e) f) (λ j. h .0 x j) (set-in (m .rows) (k - 1) new x i)
 step-fits m Undo h f = back-fits m (m .earlier) h (h .1)
 
-after-fits : (cs : List Call) (m : Machine) → MachineFits m → ((c : Call) → c ∈ cs → Fits c) → MachineFits (after m cs)
+after-fits : (cs : List Call) (m : Machine) → MachineFits m → AllFit cs → MachineFits (after m cs)
 after-fits [] m h f = h
-after-fits (c ∷ cs) m h f = after-fits cs (answer m c .machine) (step-fits m c h (f c (inl refl))) (λ d i. f d (inr i))
+after-fits (c ∷ cs) m h f = after-fits cs (answer m c .machine) (step-fits m c h (f .0)) (f .1)
 
 -- the rows R after the list
-pub rows-fit : (cs : List Call) → ((c : Call) → c ∈ cs → Fits c) → RowsFit (after start cs .rows)
+pub rows-fit : (cs : List Call) → AllFit cs → RowsFit (after start cs .rows)
 rows-fit cs f = after-fits cs start ((λ r i. absurd i), (λ l i. absurd i)) f .0

@@ -7,12 +7,12 @@ use Prim.Native.Nat.{ℕ, _<_}
 use lib.Dec.{eqb}
 use lib.IntN.{ℤ, pos}
 use lib.ListN.{length, getD}
-use Rattle.lists.specs.Members.{_∈_}
 use Rattle.lists.specs.Stores.{front}
 use Rattle.board.specs.declared.Row.{Row}
 use Rattle.history.specs.declared.Call.{Call}
 use Rattle.history.specs.declared.Replayed.{Replayed}
 use Rattle.history.specs.Machine.{answers, after, start}
+use Rattle.history.specs.Encoding.{AllFit}
 use Rattle.options.specs.declared.Depth.{Depth}
 use Rattle.navigate.specs.Navigate.{descendantsAnswer, descendantsOut}
 use Rattle.sums.specs.Sums.{subtreeAnswer}
@@ -21,7 +21,7 @@ use Rattle.request.specs.Build.{startRule, refusedBy, builtOf, indexAfter, tota
 use Rattle.guarantee.specs.declared.ReplayedAll.{ReplayedAll}
 use Rattle.answers.specs.Answers.{Descendants, Sum}
 use Rattle.paths.specs.Bodies.{minutesOf}
-use Rattle.guarantee.specs.Guarantee.{PathBuild, Fits}
+use Rattle.guarantee.specs.Guarantee.{PathBuild}
 
 -- nothing was built or asked: each part of the answer bears the replay's number
 abbrev pub notReplayed : ℕ → ReplayedAll
@@ -74,7 +74,7 @@ pub record Demand3 (cs : List Call) (refusals : List ℕ) (code : ℕ) (depth : 
   pub edits : refusals' ≡ front (answers start cs) refusals
   pub kept : answer .kept ≡ length (after start cs .earlier)
   pub count : answer .count ≡ length (after start cs .rows)
-  pub build : PathBuild (after start cs .rows) code depth (startRule rule list) ((c : Call) → c ∈ cs → Fits c) (answer .built) index index' totals totals'
+  pub build : PathBuild (after start cs .rows) code depth (startRule rule list) (AllFit cs) (answer .built) index index' totals totals'
   pub listed : answer .built .refusal ≡ 0 → Descendants (build .W) rank lower upper out (answer .listed) out'
   pub unlisted : answer .built .refusal ≢ 0 → (answer .listed ≡ record { refusal = 13; len = 0 }) × (out' ≡ out)
   pub summed : answer .built .refusal ≡ 0 → Sum (minutesOf (after start cs .rows)) (build .W) rank (answer .summed)

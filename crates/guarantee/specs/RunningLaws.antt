@@ -1,18 +1,17 @@
 -- `replay_all` gives what its contract says, and that is what demand 3 says of the calls that the words tell. Assumes nothing.
 use mathlib.Core.Path.{_≡_, refl, sym, ap, subst, _∙_}
 use mathlib.Core.Bool.{Bool, true, false, cond}
-use mathlib.Core.Logic.{_⊎_, inl, inr, _≢_}
-use mathlib.Core.List.{List, [], _∷_}
+use mathlib.Core.Logic.{_≢_}
+use mathlib.Core.List.{List, [], _∷_, _++_}
 use Prim.Native.Nat.{ℕ, zero, suc, _+_, _*_, _/_, _<_}
 use native.Mathlib.Omega.{arith}
 use lib.Dec.{eqb}
 use lib.IntN.{ℤ}
 use mir.Syntax.{w32}
-use mir.Val.{toZ}
+use mir.Val.{toZ, SFits}
 use mir.Facts.{sfits-toZ}
 use lib.ListN.{length, length-take}
 use borrow.Author.Tests.{eq-eqb, ne-eqb, eqb-true}
-use Rattle.lists.specs.Members.{_∈_, append-out}
 use Rattle.lists.specs.Stores.{front}
 use Rattle.board.specs.declared.Row.{Row}
 use Rattle.board.specs.Edits.{emptyOf}
@@ -21,20 +20,19 @@ use Rattle.history.specs.declared.Call.the-variants.{Add, Withdraw, Remark, Und
 use Rattle.history.specs.declared.Replayed.{Replayed}
 use Rattle.history.specs.Machine.{answers, after, start}
 use Rattle.history.specs.Calls.{final}
-use Rattle.history.specs.Encoding.{callOf, callAt, firstCalls, decoded, replayRefusal, replayedOf, refusalsOf}
+use Rattle.history.specs.Encoding.{callOf, callAt, firstCalls, MinutesFit, AllFit, decoded, replayRefusal, replayedOf, refusalsOf}
 use Rattle.history.specs.Simulation.{final-rows, final-kept, final-valid}
 use Rattle.history.specs.Replays.{length-first, replay-simulates}
 use Rattle.options.specs.declared.Depth.{Depth}
 use Rattle.navigate.specs.declared.Listed.{Listed}
 use Rattle.navigate.specs.Navigate.{descendantsAnswer, descendantsOut}
 use Rattle.sums.specs.declared.Summed.{Summed}
-use Rattle.sums.specs.Sums.{subtreeAnswer, leaves32}
-use Rattle.answers.specs.PathSumLaws.{small-stays}
+use Rattle.sums.specs.Sums.{subtreeAnswer}
 use Rattle.request.specs.declared.Start.{Start}
 use Rattle.request.specs.declared.Built.{Built}
 use Rattle.request.specs.Build.{startRule, builtOf, indexAfter, totalsAfter}
 use Rattle.guarantee.specs.declared.ReplayedAll.{ReplayedAll}
-use Rattle.guarantee.specs.Guarantee.{Fits, Guarantee}
+use Rattle.guarantee.specs.Guarantee.{Guarantee}
 use Rattle.guarantee.specs.GuaranteeLaws.{guarantee}
 use Rattle.guarantee.specs.Running.{notReplayed, indexLeft, totalsLeft, outLeft, answerOf, AllWords, Demand3}
 
@@ -120,28 +118,27 @@ final-count cs = let v = final-valid cs in omega (arith, length-take (final empt
 
 -- ---- the minutes of the calls that words tell
 
-word-stays : (n : ℕ) → n < 4294967296 → leaves32 (toZ w32 n) ≡ false
-word-stays n h = small-stays (toZ w32 n) (sfits-toZ {w = w32} {n = n} (record { fits = h }) .sfits)
+word-fits : (n : ℕ) → n < 4294967296 → SFits w32 (toZ w32 n)
+word-fits n h = sfits-toZ {w = w32} {n = n} (record { fits = h })
 
-call-fits : (kind a b c d : ℕ) → b < 4294967296 → d < 4294967296 → Fits (callOf kind a b c d)
+call-fits : (kind a b c d : ℕ) → b < 4294967296 → d < 4294967296 → MinutesFit (callOf kind a b c d)
 unfolding callOf
 call-fits kind a b c d h k = go (eqb kind 0) (eqb kind 1) (eqb kind 2)
   where
-    go : (t u v : Bool) → Fits (cond t (Add (record { parent = a; numeral = b; order = c; minutes = toZ w32 d })) (cond u (Withdraw a) (cond v (Remark a (toZ w32 b)) Undo)))
-    go true u v = word-stays d k
+    go : (t u v : Bool) → MinutesFit (cond t (Add (record { parent = a; numeral = b; order = c; minutes = toZ w32 d })) (cond u (Withdraw a) (cond v (Remark a (toZ w32 b)) Undo)))
+    go true u v = word-fits d k
     go false true v = tt
-    go false false true = word-stays b h
+    go false false true = word-fits b h
     go false false false = tt
 
-first-fit : (words : List ℕ) → AllWords words → (n : ℕ) (c : Call) → c ∈ firstCalls words n → Fits c
+one-more-fits : (cs : List Call) (c : Call) → AllFit cs → MinutesFit c → AllFit (cs ++ (c ∷ []))
+one-more-fits [] c h f = (f, tt)
+one-more-fits (d ∷ cs) c h f = (h .0, one-more-fits cs c (h .1) f)
+
+first-fit : (words : List ℕ) → AllWords words → (n : ℕ) → AllFit (firstCalls words n)
 unfolding callAt
-first-fit words w zero c m = absurd m
-first-fit words w (suc n) c m = go (λ k. first-fit words w n c k) (append-out (firstCalls words n) (callAt words n ∷ []) c m)
-  where
-    go : (c ∈ firstCalls words n → Fits c) → (c ∈ firstCalls words n) ⊎ (c ∈ (callAt words n ∷ [])) → Fits c
-    go f (inl k) = f k
-    go f (inr (inl e)) = subst Fits (sym e) (call-fits _ _ _ _ _ (w (n * 5 + 2)) (w (n * 5 + 4)))
-    go f (inr (inr k)) = absurd k
+first-fit words w zero = tt
+first-fit words w (suc n) = one-more-fits (firstCalls words n) (callAt words n) (first-fit words w n) (call-fits _ _ _ _ _ (w (n * 5 + 2)) (w (n * 5 + 4)))
 
 -- ---- demand 3
 
