@@ -16,11 +16,12 @@ use Rattle.image.specs.ImageLaws.{Holds}
 use Rattle.navigate.specs.Navigate.{within, distance}
 use Rattle.navigate.specs.Climb.{chain, ancestorList, ancestorsAnswer}
 use Rattle.sums.specs.HeldLaws.{HoldsTotals}
-use Rattle.forest.specs.Nodes.{Forest, Closed, nodeAt, begins, falling}
-use Rattle.forest.specs.Beginnings.{begins-length}
-use Rattle.answers.specs.Answers.{First, applies, passes, Navigation, DistancesAtMostZero, LinksByLevel}
-use Rattle.answers.specs.Described.{Described, level-here}
-use Rattle.answers.specs.AnswerLaws.{has-rank, descendants-here, siblings-here, sum-here}
+use Rattle.forest.specs.Nodes.{nodeAt, begins, falling}
+use Rattle.forest.specs.ForestLaws.{Forest, Closed}
+use Rattle.forest.specs.BeginningLaws.{begins-length}
+use Rattle.answers.specs.Answers.{First, applies, otherwise, Navigation, DistancesAtMostZero, LinksByLevel}
+use Rattle.answers.specs.DescribedLaws.{Described, level-here}
+use Rattle.answers.specs.AnswerLaws.{has-rank, descendants-here, siblings-here, subtree-sum-here}
 use Rattle.answers.specs.RankLaws.{falling-out}
 use Rattle.answers.specs.ClimbLaws.{closed-links, chain-here, ancestors-here}
 use Rattle.answers.specs.PathSumLaws.{path-sum-here}
@@ -37,7 +38,7 @@ at-most-zero a (suc b) h = record { le = go (ltb a (suc b)) }
 -- where sentence 14 isn't the refusal it doesn't apply
 not-first : {S : Type 0} {n : ℕ} {later : ℕ → Type 0} {q : ℕ} → First S n later q → q ≢ n → S → ⊥
 not-first (applies s e) d = absurd (d e)
-not-first (passes d l) e = d
+not-first (otherwise d l) e = d
 
 module _ {W : List (List ℕ)} (g : Forest W) {bs : List Body} (b : Described W bs) (short : (p : List ℕ) → p ∈ W → length p < 65536) (small : length W ≤ 65535) {s : List ℕ} (h : Holds s bs) where
   pub navigation-here : (minutes : List ℕ → ℤ) (fits : Type 0) → (fits → (p : List ℕ) → p ∈ W → mag (minutes p) < 2147483648) → {t : List ℤ} → HoldsTotals minutes W t → Navigation minutes W fits s t
@@ -45,7 +46,7 @@ module _ {W : List (List ℕ)} (g : Forest W) {bs : List Body} (b : Described W 
     descendants = descendants-here g b short small h;
     ancestors = ancestors-here g b short small h;
     siblings = siblings-here g b short small h;
-    subtree-sums = λ f rank. sum-here g b short small h rank minutes (fit f) k;
+    subtree-sums = λ f rank. subtree-sum-here g b short small h rank minutes (fit f) k;
     path-sums = λ f. path-sum-here g b short small h minutes (fit f) k;
   }
 

@@ -20,10 +20,10 @@ use Rattle.navigate.specs.HeldLaws.{noRank}
 use Rattle.navigate.specs.Climb.{chain}
 use Rattle.sums.specs.Sums.{totalAt, leaves32, ownMinutes, badTotals, badOwn, badPath, pathSum, sumAnswer, pathAnswer}
 use Rattle.sums.specs.HeldLaws.{HoldsTotals, total-is, total-near, totals-held}
-use Rattle.forest.specs.Nodes.{Forest, nodeAt, begins, beginnings, falling}
-use Rattle.forest.specs.Parents.{node-in}
-use Rattle.answers.specs.Answers.{applies, passes, NoRank, PathSum}
-use Rattle.answers.specs.Described.{Described, same-length, sized}
+use Rattle.forest.specs.Nodes.{nodeAt, begins, beginnings, falling}
+use Rattle.forest.specs.ForestLaws.{Forest, node-in}
+use Rattle.answers.specs.Answers.{applies, otherwise, NoRank, PathSum}
+use Rattle.answers.specs.DescribedLaws.{Described, same-length, sized}
 use Rattle.answers.specs.AnswerLaws.{rank-test, has-rank, rank-refused}
 use Rattle.answers.specs.RankLaws.{falling-out, sum-ranks}
 use Rattle.answers.specs.ClimbLaws.{climb-goes, chain-here}
@@ -98,4 +98,4 @@ module _ {W : List (List ℕ)} (g : Forest W) {bs : List Body} (b : Described W 
       go false f =
           let r = has-rank W rank (λ n. f .1 n) in
           subst (λ v. PathSum minutes W rank (sumAnswer (cond v 15 0) (pathSum s t rank))) (sym (path-fine rank (r .0) (r .1)))
-          (record { refusal = passes (λ n. f .1 n) refl; accepted = λ e. path-is rank (r .0) (r .1); refused = λ e. absurd (e refl) })
+          (record { refusal = otherwise (λ n. f .1 n) refl; accepted = λ e. path-is rank (r .0) (r .1); refused = λ e. absurd (e refl) })

@@ -18,19 +18,19 @@ use Rattle.image.specs.declared.Body.{Body}
 use Rattle.image.specs.Layout.{imageWords}
 use Rattle.image.specs.ImageLaws.{Holds, holds-front}
 use Rattle.paths.specs.Paths.{Orphan}
-use Rattle.forest.specs.Nodes.{Closed}
+use Rattle.forest.specs.ForestLaws.{Closed}
 use Rattle.paths.specs.Nodes.{nodes}
 use Rattle.paths.specs.Bodies.{bodies}
 use Rattle.paths.specs.Refusals.{orphanChoice, refusalOf}
 use Rattle.paths.specs.NodeLaws.{nodes-forest}
-use Rattle.paths.specs.Parents.{nodes-closed}
+use Rattle.paths.specs.ParentLaws.{nodes-closed}
 use Rattle.index_check.specs.IndexCheck.{accepts}
 use Rattle.answers.specs.Answers.{DistancesAtMostZero, LinksByLevel}
-use Rattle.answers.specs.Described.{closed-accepted}
+use Rattle.answers.specs.DescribedLaws.{closed-accepted}
 use Rattle.answers.specs.NavigationLaws.{distances-at-most-zero, links-by-level}
 use Rattle.request.specs.Build.{buildRefusal, builtOf, indexAfter}
 use Rattle.guarantee.specs.BodyLaws.{described, short}
-use Rattle.guarantee.specs.GuaranteeLaws.{Room, room, sound-few}
+use Rattle.guarantee.specs.GuaranteeLaws.{Unrefused, unrefused, sound-few}
 
 -- no refusal 1, and none after it
 sound-first : (t : Bool) (q : ℕ) → cond t q 1 ≡ 0 → (t ≡ true) × (q ≡ 0)
@@ -54,8 +54,8 @@ module _ (b : Board) (code : ℕ) (depth : Depth) (starts : Row → Bool) (index
   few : length R ≤ 1024
   few = sound-few b (parts .0)
 
-  r : Room R few code depth starts index totals
-  r = room R few code depth starts index totals (parts .1)
+  r : Unrefused R code depth starts few index totals
+  r = unrefused R code depth starts few index totals (parts .1)
 
   held : Holds (indexAfter b code depth starts index (length totals)) bs
   unfolding builtOf indexAfter

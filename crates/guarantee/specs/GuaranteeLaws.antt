@@ -2,7 +2,7 @@
 use mathlib.Core.Path.{_≡_, refl, sym, ap, subst, _∙_}
 use mathlib.Core.Bool.{Bool, true, false, cond, not, true≢false}
 use mathlib.Core.List.{List, map}
-use Prim.Native.Nat.{ℕ, zero, suc, _+_, _*_, _≤_, _<_}
+use Prim.Native.Nat.{ℕ, zero, suc, _≤_, _<_}
 use native.Mathlib.Omega.{arith}
 use lib.Dec.{eqb, ltb}
 use lib.IntN.{ℤ, pos}
@@ -32,11 +32,11 @@ use Rattle.paths.specs.Refusals.{orphanChoice, refusal7, refusalOf}
 use Rattle.paths.specs.NodeLaws.{nodes-forest}
 use Rattle.paths.specs.BodyLaws.{bodies-length, left-is}
 use Rattle.paths.specs.RefusalLaws.{accepted}
-use Rattle.paths.specs.Parents.{Allowed}
-use Rattle.paths.specs.Bounds.{level-fits, minutes-fit}
+use Rattle.paths.specs.ParentLaws.{Allowed}
+use Rattle.paths.specs.BoundLaws.{level-fits, minutes-fit}
 use Rattle.sums.specs.HeldLaws.{HoldsTotals}
 use Rattle.answers.specs.Answers.{Navigation}
-use Rattle.answers.specs.Described.{count-here}
+use Rattle.answers.specs.DescribedLaws.{count-here}
 use Rattle.answers.specs.NavigationLaws.{navigation-here}
 use Rattle.answers.specs.ZeroLaws.{zeros-refused}
 use Rattle.request.specs.declared.Built.{Built}
@@ -55,85 +55,88 @@ allowed-here (Limit d) (suc zero) e = tt
 allowed-here (Limit d) (suc (suc zero)) e = absurd (true≢false e)
 allowed-here (Limit d) (suc (suc (suc orphan))) e = absurd (true≢false (sym (ap not (ne-eqb (suc (suc (suc orphan))) 0 (λ z. omega arith))) ∙ e))
 
--- ---- a build over rows, of a refusal q
+-- ---- a build over rows: the answer of a refusal q and what is left, `done` where the build is accepted
 
-module _ (R : List Row) (few : length R ≤ 1024) (code : ℕ) (depth : Depth) (starts : Row → Bool) (index : List ℕ) (totals : List ℤ) where
+module _ (R : List Row) (code : ℕ) (depth : Depth) (starts : Row → Bool) where
   abbrev o : Orphan
   o = orphanChoice (orphanOf code)
 
   abbrev W : List (List ℕ)
   W = nodes R starts depth o
 
-  -- the answer and what is left, `done` where the build is accepted
-  abbrev answerOf : ℕ → Bool → Built
+  abbrev pub answerOf : ℕ → Bool → Built
   answerOf q done = record { refusal = q; nodes = cond done (length W) 0; left = cond done (leftOf R starts depth o) 0 }
 
-  abbrev indexOf : Bool → List ℕ
-  indexOf done = cond done (front (imageWords (bodies R starts depth o)) index) (replicate (length index) 0)
+  abbrev pub indexOf : List ℕ → Bool → List ℕ
+  indexOf index done = cond done (front (imageWords (bodies R starts depth o)) index) (replicate (length index) 0)
 
-  abbrev totalsOf : Bool → List ℤ
-  totalsOf done = cond done (front (runningTotals R W) totals) (replicate (length totals) (pos 0))
+  abbrev pub totalsOf : List ℤ → Bool → List ℤ
+  totalsOf totals done = cond done (front (runningTotals R W) totals) (replicate (length totals) (pos 0))
 
-  -- none of the sentences applies, so the nodes are few and the totals long enough
-  pub record Room : Type 0 where
-    pub allowed : Allowed depth o
-    pub small : length W ≤ 65535
-    pub long : length W + 1 ≤ length totals
+  module _ (few : length R ≤ 1024) (index : List ℕ) (totals : List ℤ) where
+    abbrev indexBy : Bool → List ℕ
+    indexBy = indexOf index
 
-  pub room : refusalOf R code depth starts (length index) (length totals) ≡ 0 → Room
-  room e =
-      let l = bodies-length R starts depth o in
-      let n = length (bodies R starts depth o) in
-      let t = accepted R code depth starts (length index) (length totals) e in
-      let a = or-no (ltb 65535 n) _ (t .sentence9) in
-      let b = or-no (ltb (length index) (8 + 6 * n)) _ (a .1) in
-      record { allowed = allowed-here depth (orphanOf code) (t .sentence7); small = omega (arith, ltb-false 65535 n (a .0)); long = omega (arith, ltb-false (length totals) (n + 1) (b .1)) }
+    abbrev totalsBy : Bool → List ℤ
+    totalsBy = totalsOf totals
 
-  zeroed : (q : ℕ) → Refused (answerOf q false) index (indexOf false) totals (totalsOf false)
-  zeroed q = record { n = refl; left = refl; zero-index = refl; zero-totals = refl; navigation = zeros-refused (length index) (replicate (length totals) (pos 0)) }
+    -- what is had where none of the sentences applies
+    pub record Unrefused : Type 0 where
+      pub allowed : Allowed depth o
+      pub small : length W ≤ 65535
 
-  left-increasing : Increasing _<_ (leftRows R starts depth o)
-  unfolding leftRows
-  left-increasing = increasing-filter _<_ (λ x. not (memb x (map last W))) (numbers 1 (length R)) (numbers-rising 1 (length R))
+    pub unrefused : refusalOf R code depth starts (length index) (length totals) ≡ 0 → Unrefused
+    unrefused e =
+        let l = bodies-length R starts depth o in
+        let n = length (bodies R starts depth o) in
+        let t = accepted R code depth starts (length index) (length totals) e in
+        record { allowed = allowed-here depth (orphanOf code) (t .sentence7); small = omega (arith, ltb-false 65535 n (or-no (ltb 65535 n) _ (t .sentence9) .0)) }
 
-  left-length : leftOf R starts depth o ≡ length (leftRows R starts depth o)
-  unfolding leftOf
-  left-length = refl
+    zeroed : (q : ℕ) → Refused (answerOf q false) index (indexBy false) totals (totalsBy false)
+    zeroed q = record { n = refl; left = refl; zero-index = refl; zero-totals = refl; navigation = zeros-refused (length index) (replicate (length totals) (pos 0)) }
 
-  held : Holds (indexOf true) (bodies R starts depth o)
-  held = holds-front (bodies R starts depth o) index
+    left-increasing : Increasing _<_ (leftRows R starts depth o)
+    unfolding leftRows
+    left-increasing = increasing-filter _<_ (λ x. not (memb x (map last W))) (numbers 1 (length R)) (numbers-rising 1 (length R))
 
-  running : HoldsTotals (minutesOf R) W (totalsOf true)
-  unfolding runningTotals
-  running = record { rest = drop (length (runningTotals R W)) totals; is = front-is (runningTotals R W) totals }
+    left-length : leftOf R starts depth o ≡ length (leftRows R starts depth o)
+    unfolding leftOf
+    left-length = refl
 
-  written : (q : ℕ) → Room → Accepted (buildNodes R code depth starts) W (answerOf q true) index (indexOf true) totals (totalsOf true)
-  unfolding runningTotals
-  written q r = record {
-    n = refl;
-    count = count-here (nodes-forest R starts depth o) (described R starts depth o (r .allowed)) (short R starts depth o few) held;
-    bodies = read-of R starts depth o held few;
-    image = ap (λ l. front (imageWords l) index) (sym (bodies-read held (λ b m. omega (arith, level-fits R starts depth o few b m))));
-    running = refl;
-    leftRows = leftRows R starts depth o;
-    left-rising = left-increasing;
-    left-is = left-is R starts depth o;
-    left-count = left-length;
-  }
+    held : Holds (indexBy true) (bodies R starts depth o)
+    held = holds-front (bodies R starts depth o) index
 
-  pub build-of : (fits : Type 0) → (fits → RowsFit R) → (q : ℕ) → q ≡ refusalOf R code depth starts (length index) (length totals)
-      → PathBuild R code depth starts fits (answerOf q (eqb q 0)) index (indexOf (eqb q 0)) totals (totalsOf (eqb q 0))
-  build-of fits f q e = record {
-    W = W;
-    nodes = node-list R starts depth o;
-    refusal = subst (BuildRefusal R code depth starts (length index) (length totals) W) (sym e) (first-sentence R code depth starts (length index) (length totals));
-    refused = λ n. subst (λ t. Refused (answerOf q t) index (indexOf t) totals (totalsOf t)) (sym (ne-eqb q 0 n)) (zeroed q);
-    accepted = λ z. subst (λ t. Accepted (buildNodes R code depth starts) W (answerOf q t) index (indexOf t) totals (totalsOf t)) (sym (eq-eqb q 0 z)) (written q (room (sym e ∙ z)));
-    navigation = λ z. let r = room (sym e ∙ z) in
-        subst (λ t. Navigation (minutesOf R) W fits (indexOf t) (totalsOf t)) (sym (eq-eqb q 0 z))
-        (navigation-here (nodes-forest R starts depth o) (described R starts depth o (r .allowed)) (short R starts depth o few) (r .small) held
-        (minutesOf R) fits (λ g p m. minutes-fit R (λ r i. f g r i .sfits) (last p)) running);
-  }
+    running : HoldsTotals (minutesOf R) W (totalsBy true)
+    unfolding runningTotals
+    running = record { rest = drop (length (runningTotals R W)) totals; is = front-is (runningTotals R W) totals }
+
+    written : (q : ℕ) → Unrefused → Accepted (buildNodes R code depth starts) W (answerOf q true) index (indexBy true) totals (totalsBy true)
+    unfolding runningTotals
+    written q r = record {
+      n = refl;
+      count = count-here (nodes-forest R starts depth o) (described R starts depth o (r .allowed)) (short R starts depth o few) held;
+      bodies = read-of R starts depth o held few;
+      image = ap (λ l. front (imageWords l) index) (sym (bodies-read held (λ b m. omega (arith, level-fits R starts depth o few b m))));
+      running = refl;
+      leftRows = leftRows R starts depth o;
+      left-rising = left-increasing;
+      left-is = left-is R starts depth o;
+      left-count = left-length;
+    }
+
+    build-of : (fits : Type 0) → (fits → RowsFit R) → (q : ℕ) → q ≡ refusalOf R code depth starts (length index) (length totals)
+        → PathBuild R code depth starts fits (answerOf q (eqb q 0)) index (indexBy (eqb q 0)) totals (totalsBy (eqb q 0))
+    build-of fits f q e = record {
+      W = W;
+      nodes = node-list R starts depth o;
+      refusal = subst (BuildRefusal R code depth starts (length index) (length totals) W) (sym e) (first-sentence R code depth starts (length index) (length totals));
+      refused = λ n. subst (λ t. Refused (answerOf q t) index (indexBy t) totals (totalsBy t)) (sym (ne-eqb q 0 n)) (zeroed q);
+      accepted = λ z. subst (λ t. Accepted (buildNodes R code depth starts) W (answerOf q t) index (indexBy t) totals (totalsBy t)) (sym (eq-eqb q 0 z)) (written q (unrefused (sym e ∙ z)));
+      navigation = λ z. let r = unrefused (sym e ∙ z) in
+          subst (λ t. Navigation (minutesOf R) W fits (indexBy t) (totalsBy t)) (sym (eq-eqb q 0 z))
+          (navigation-here (nodes-forest R starts depth o) (described R starts depth o (r .allowed)) (short R starts depth o few) (r .small) held
+          (minutesOf R) fits (λ g p m. minutes-fit R (λ r i. f g r i .sfits) (last p)) running);
+    }
 
 -- ---- a build on a sound board
 
@@ -143,7 +146,7 @@ sound-few b sound = omega (arith, sound-count b sound, length-take (b .count) (b
 build-on : (b : Board) → soundOf b ≡ true → (fits : Type 0) → (fits → RowsFit (rowsOf b)) → BuildOn b (rowsOf b) fits
 unfolding buildRefusal builtOf indexAfter totalsAfter
 build-on b sound fits f code depth rule list index totals =
-    build-of (rowsOf b) (sound-few b sound) code depth (startRule rule list) index totals fits f (buildRefusal b code depth (startRule rule list) (length index) (length totals))
+    build-of (rowsOf b) code depth (startRule rule list) (sound-few b sound) index totals fits f (buildRefusal b code depth (startRule rule list) (length index) (length totals))
     (ap (λ t. cond t (refusalOf (rowsOf b) code depth (startRule rule list) (length index) (length totals)) 1) sound)
 
 pub sound-build : (b : Board) → SoundBuild b

@@ -3,10 +3,10 @@ use mathlib.Core.Path.{_≡_}
 use mathlib.Core.Logic.{_≢_}
 use mathlib.Core.Bool.{Bool, cond}
 use mathlib.Core.List.{List}
-use Prim.Native.Nat.{ℕ, _<_}
+use Prim.Native.Nat.{ℕ}
 use lib.Dec.{eqb}
 use lib.IntN.{ℤ, pos}
-use lib.ListN.{length, getD}
+use lib.ListN.{length}
 use Rattle.lists.specs.Stores.{front}
 use Rattle.board.specs.declared.Row.{Row}
 use Rattle.history.specs.declared.Call.{Call}
@@ -19,7 +19,7 @@ use Rattle.sums.specs.Sums.{subtreeAnswer}
 use Rattle.request.specs.declared.Start.{Start}
 use Rattle.request.specs.Build.{startRule, refusedBy, builtOf, indexAfter, totalsAfter}
 use Rattle.guarantee.specs.declared.ReplayedAll.{ReplayedAll}
-use Rattle.answers.specs.Answers.{Descendants, Sum}
+use Rattle.answers.specs.Answers.{Descendants, SubtreeSum}
 use Rattle.paths.specs.Bodies.{minutesOf}
 use Rattle.guarantee.specs.Guarantee.{PathBuild}
 
@@ -48,8 +48,8 @@ module _ (done : Replayed) (code : ℕ) (depth : Depth) (starts : Row → Bool) 
     abbrev pub outLeft : List ℕ
     outLeft = cond (eqb (done .refusal) 0) (descendantsOut (indexAfter (done .board) code depth starts index (length totals)) rank lower upper out) out
 
-    abbrev pub answerOf : ReplayedAll
-    answerOf =
+    abbrev pub replayAllAnswer : ReplayedAll
+    replayAllAnswer =
         let left : List ℕ = indexAfter (done .board) code depth starts index (length totals) in
         cond (eqb (done .refusal) 0)
         (record {
@@ -63,10 +63,6 @@ module _ (done : Replayed) (code : ℕ) (depth : Depth) (starts : Row → Bool) 
         })
         (notReplayed (done .refusal))
 
--- every number of the list is a u32, as in every slice that code can be handed
-abbrev pub AllWords : List ℕ → Type 0
-AllWords words = (k : ℕ) → getD words k 0 < 4294967296
-
 -- "Demand 3 is a single claim about the whole list of calls", of the calls cs that the words tell: `answer` and the slices afterwards are the plain machine's and the paper's
 pub record Demand3 (cs : List Call) (refusals : List ℕ) (code : ℕ) (depth : Depth) (rule : Start) (list index : List ℕ) (totals : List ℤ) (rank : ℕ) (lower upper : ℤ) (out : List ℕ)
     (answer : ReplayedAll) (refusals' index' : List ℕ) (totals' : List ℤ) (out' : List ℕ) : Type 0 where
@@ -77,5 +73,5 @@ pub record Demand3 (cs : List Call) (refusals : List ℕ) (code : ℕ) (depth : 
   pub build : PathBuild (after start cs .rows) code depth (startRule rule list) (AllFit cs) (answer .built) index index' totals totals'
   pub listed : answer .built .refusal ≡ 0 → Descendants (build .W) rank lower upper out (answer .listed) out'
   pub unlisted : answer .built .refusal ≢ 0 → (answer .listed ≡ record { refusal = 13; len = 0 }) × (out' ≡ out)
-  pub summed : answer .built .refusal ≡ 0 → Sum (minutesOf (after start cs .rows)) (build .W) rank (answer .summed)
+  pub summed : answer .built .refusal ≡ 0 → SubtreeSum (minutesOf (after start cs .rows)) (build .W) rank (answer .summed)
   pub unsummed : answer .built .refusal ≢ 0 → answer .summed ≡ record { refusal = 13; sum = pos 0 }

@@ -10,7 +10,7 @@ use lib.IntN.{ℤ}
 use mir.Syntax.{w32}
 use mir.Val.{toZ, SFits}
 use mir.Facts.{sfits-toZ}
-use lib.ListN.{length, length-take}
+use lib.ListN.{length, getD, length-take}
 use borrow.Author.Tests.{eq-eqb, ne-eqb, eqb-true}
 use Rattle.lists.specs.Stores.{front}
 use Rattle.board.specs.declared.Row.{Row}
@@ -34,14 +34,14 @@ use Rattle.request.specs.Build.{startRule, builtOf, indexAfter, totalsAfter}
 use Rattle.guarantee.specs.declared.ReplayedAll.{ReplayedAll}
 use Rattle.guarantee.specs.Guarantee.{Guarantee}
 use Rattle.guarantee.specs.GuaranteeLaws.{guarantee}
-use Rattle.guarantee.specs.Running.{notReplayed, indexLeft, totalsLeft, outLeft, answerOf, AllWords, Demand3}
+use Rattle.guarantee.specs.Running.{notReplayed, indexLeft, totalsLeft, outLeft, replayAllAnswer, Demand3}
 
 -- ---- after a replay
 
 -- `answer` and three lent slices afterwards are what the contract of `replay_all` says of a replay
 pub record Runs (done : Replayed) (code : ℕ) (depth : Depth) (starts : Row → Bool) (index : List ℕ) (totals : List ℤ) (rank : ℕ) (lower upper : ℤ) (out : List ℕ)
     (answer : ReplayedAll) (index' : List ℕ) (totals' : List ℤ) (out' : List ℕ) : Type 0 where
-  pub answer-is : answer ≡ answerOf done code depth starts index totals rank lower upper out
+  pub answer-is : answer ≡ replayAllAnswer done code depth starts index totals rank lower upper out
   pub index-is : index' ≡ indexLeft done code depth starts index totals
   pub totals-is : totals' ≡ totalsLeft done code depth starts index totals
   pub out-is : out' ≡ outLeft done code depth starts index totals rank lower upper out
@@ -118,6 +118,10 @@ final-count cs = let v = final-valid cs in omega (arith, length-take (final empt
 
 -- ---- the minutes of the calls that words tell
 
+-- every number of the list is a u32, as in every slice that code can be handed
+abbrev pub AllWords : List ℕ → Type 0
+AllWords words = (k : ℕ) → getD words k 0 < 4294967296
+
 word-fits : (n : ℕ) → n < 4294967296 → SFits w32 (toZ w32 n)
 word-fits n h = sfits-toZ {w = w32} {n = n} (record { fits = h })
 
@@ -149,7 +153,7 @@ module _ (words refusals : List ℕ) (code : ℕ) (depth : Depth) (rule : Start)
   abbrev Claim : ReplayedAll → List ℕ → List ℕ → List ℤ → List ℕ → Type 0
   Claim = Demand3 cs refusals code depth rule list index totals rank lower upper out
 
-  claim : Guarantee cs → AllWords words → Claim (answerOf (allReplayed words) code depth (startRule rule list) index totals rank lower upper out)
+  claim : Guarantee cs → AllWords words → Claim (replayAllAnswer (allReplayed words) code depth (startRule rule list) index totals rank lower upper out)
       (front (answers start cs) refusals) (indexLeft (allReplayed words) code depth (startRule rule list) index totals) (totalsLeft (allReplayed words) code depth (startRule rule list) index totals)
       (outLeft (allReplayed words) code depth (startRule rule list) index totals rank lower upper out)
   claim g w =

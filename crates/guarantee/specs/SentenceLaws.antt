@@ -28,13 +28,13 @@ use Rattle.guarantee.specs.Builds.{BodyOf, Shares}
 use Rattle.guarantee.specs.Guarantee.{Closing, pathNodes, BuildRefusal}
 use Rattle.guarantee.specs.BodyLaws.{body-of}
 
-pub both : (a b : Bool) {A B : Type 0} → T a ↔ A → T b ↔ B → T (a && b) ↔ (A × B)
+both : (a b : Bool) {A B : Type 0} → T a ↔ A → T b ↔ B → T (a && b) ↔ (A × B)
 both a b f g = ((λ t. let r = and-out a b t in (f .0 (r .0), g .0 (r .1))), (λ x. and-in a b (f .1 (x .0)) (g .1 (x .1))))
 
-pub one-of : (a b : Bool) {A B : Type 0} → T a ↔ A → T b ↔ B → T (a || b) ↔ (A ⊎ B)
+one-of : (a b : Bool) {A B : Type 0} → T a ↔ A → T b ↔ B → T (a || b) ↔ (A ⊎ B)
 one-of a b f g = ((λ t. ⊎-elim (λ x. inl (f .0 x)) (λ x. inr (g .0 x)) (or-out a b t)), ⊎-elim (λ x. or-left a b (f .1 x)) (λ x. or-right a b (g .1 x)))
 
-pub equal : (a b : ℕ) → T (eqb a b) ↔ (a ≡ b)
+equal : (a b : ℕ) → T (eqb a b) ↔ (a ≡ b)
 equal a b = (eqb→eq a b, eq→eqb a b)
 
 unequal : (a b : ℕ) → T (not (eqb a b)) ↔ (a ≢ b)

@@ -3,7 +3,7 @@ ghost use mathlib.Core.Path.{_≡_};
 ghost use lib.ListN.{length};
 ghost use Rattle.history.specs.Encoding.{decoded, replayedOf, refusalsOf};
 ghost use Rattle.request.specs.Build.{startRule};
-ghost use Rattle.guarantee.specs.Running.{notReplayed, answerOf, indexLeft, totalsLeft, outLeft, Demand3};
+ghost use Rattle.guarantee.specs.Running.{notReplayed, replayAllAnswer, indexLeft, totalsLeft, outLeft, Demand3};
 use navigate::Listed;
 use options::Depth;
 use request::Built;
@@ -66,7 +66,7 @@ pub fn replay_all(
     upper: i32,
     out: &mut [u32],
 ) -> ReplayedAll
-    ensures { λ r. ⌜ r ≡ answerOf (replayedOf (now (words .entry)) (length (now (refusals .entry)))) code depth (startRule start (now (list .entry))) (now (index .entry)) (now (totals .entry)) rank lower upper (now (out .entry)) ⌝ }
+    ensures { λ r. ⌜ r ≡ replayAllAnswer (replayedOf (now (words .entry)) (length (now (refusals .entry)))) code depth (startRule start (now (list .entry))) (now (index .entry)) (now (totals .entry)) rank lower upper (now (out .entry)) ⌝ }
     ensures { λ _. ⌜ now (refusals .exit) ≡ refusalsOf (now (words .entry)) (now (refusals .entry)) ⌝ }
     ensures { λ _. ⌜ now (index .exit) ≡ indexLeft (replayedOf (now (words .entry)) (length (now (refusals .entry)))) code depth (startRule start (now (list .entry))) (now (index .entry)) (now (totals .entry)) ⌝ }
     ensures { λ _. ⌜ now (totals .exit) ≡ totalsLeft (replayedOf (now (words .entry)) (length (now (refusals .entry)))) code depth (startRule start (now (list .entry))) (now (index .entry)) (now (totals .entry)) ⌝ }

@@ -1,21 +1,16 @@
--- Marked cases M6 and M7 of paper 01, with the spans, siblings and refusals of the same index, by computation of the definitions. Assumes nothing.
+-- Spans, siblings and refusals on the index of paper 01's listing, by computation of the definitions. Assumes nothing.
 use mathlib.Core.Path.{_≡_, refl}
 use mathlib.Core.List.{List, [], _∷_}
 use Prim.Native.Nat.{ℕ}
-use lib.IntN.{pos, negsuc}
+use lib.IntN.{pos}
 use lib.ListN.{replicate}
 use Rattle.lists.specs.Stores.{front}
 use Rattle.image.specs.Layout.{bodyWords, flat, checked, contentsWords, imageWords, badContents}
 use Rattle.image.specs.Sample.{listing}
-use Rattle.navigate.specs.Navigate.{badRank, badSpan, spanPart, descendantList, siblingList, descendantsAnswer, descendantsOut, siblingsAnswer, siblingsOut}
-use Rattle.navigate.specs.Climb.{climbFrom, stuckFrom, ancestorsAnswer, ancestorsOut}
+use Rattle.navigate.specs.Navigate.{badRank, badSpan, spanPart, descendantList, siblingList, descendantsAnswer, siblingsAnswer, siblingsOut}
 
 -- over the words of an index, with slices of nine zeros lent
 pub record NavigationCases (s : List ℕ) : Type 0 where
-  pub m6 : descendantsAnswer s 2 (pos 2) (pos 3) (replicate 9 0) ≡ record { refusal = 0; len = 2 }
-  pub m6-list : descendantsOut s 2 (pos 2) (pos 3) (replicate 9 0) ≡ 4 ∷ 5 ∷ replicate 7 0
-  pub m7 : ancestorsAnswer s 5 (negsuc 3) (pos 0) (replicate 9 0) ≡ record { refusal = 0; len = 5; links = 4 }
-  pub m7-list : ancestorsOut s 5 (negsuc 3) (pos 0) (replicate 9 0) ≡ 5 ∷ 4 ∷ 3 ∷ 2 ∷ 1 ∷ replicate 4 0
   -- roots are siblings
   pub roots : siblingsAnswer s 1 (replicate 9 0) ≡ record { refusal = 0; len = 2 }
   pub roots-list : siblingsOut s 1 (replicate 9 0) ≡ 1 ∷ 9 ∷ replicate 7 0
@@ -28,12 +23,8 @@ pub record NavigationCases (s : List ℕ) : Type 0 where
   pub too-long : descendantsAnswer s 1 (pos 0) (pos 9) (replicate 7 0) ≡ record { refusal = 16; len = 0 }
 
 pub navigation-cases : NavigationCases (imageWords listing)
-unfolding listing imageWords contentsWords flat bodyWords checked badContents badRank badSpan descendantList siblingList climbFrom stuckFrom front
+unfolding listing imageWords contentsWords flat bodyWords checked badContents badRank badSpan descendantList siblingList front
 navigation-cases = record {
-  m6 = refl;
-  m6-list = refl;
-  m7 = refl;
-  m7-list = refl;
   roots = refl;
   roots-list = refl;
   span = refl;
