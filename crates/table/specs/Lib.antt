@@ -1,0 +1,3 @@
+pub mod TableLayer
+pub mod TableLaws
+pub mod FillLaws
