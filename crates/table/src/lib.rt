@@ -4,21 +4,21 @@ ghost use Prim.Native.Nat.{ℕ, _<_};
 ghost use lib.ListN.{length, getD};
 ghost use Rattle.table.specs.TableLayer.{column, Stored, rowColumn, parentColumn, numeralColumn, childColumn, nextColumn, classColumn, parentPositionColumn, flagColumn};
 
-const ROW: usize = 0;
+pub const ROW: usize = 0;
 
-const PARENT: usize = 1;
+pub const PARENT: usize = 1;
 
-const NUMERAL: usize = 2;
+pub const NUMERAL: usize = 2;
 
-const CHILD: usize = 3;
+pub const CHILD: usize = 3;
 
-const NEXT: usize = 4;
+pub const NEXT: usize = 4;
 
-const CLASS: usize = 5;
+pub const CLASS: usize = 5;
 
-const PARENT_POSITION: usize = 6;
+pub const PARENT_POSITION: usize = 6;
 
-const FLAG: usize = 7;
+pub const FLAG: usize = 7;
 
 // How many rows a table has.
 pub fn rows(table: &[u32]) -> usize
@@ -28,7 +28,7 @@ pub fn rows(table: &[u32]) -> usize
 }
 
 // The word at position p of a column, 0 past the last row.
-fn cell(table: &[u32], p: u32, k: usize) -> u32
+pub fn cell(table: &[u32], p: u32, k: usize) -> u32
     requires { ⌜ k < 8 ⌝ }
     ensures { λ r. ⌜ r ≡ getD (column k (now (table .entry))) p 0 ⌝ }
 {
@@ -40,7 +40,7 @@ fn cell(table: &[u32], p: u32, k: usize) -> u32
 }
 
 // Stores a word at position p of a column.
-fn store(table: &mut [u32], p: u32, k: usize, v: u32)
+pub fn store(table: &mut [u32], p: u32, k: usize, v: u32)
     requires { ⌜ (k < 8) × (p < length (column k (now table))) ⌝ }
     ensures { λ _. ⌜ Stored k p v (now (table .entry)) (now (table .exit)) ⌝ }
 {
