@@ -3,11 +3,17 @@ use mathlib.Core.Path.{_≡_}
 use mathlib.Core.Logic.{_≢_}
 use mathlib.Core.Bool.{Bool}
 use mathlib.Core.List.{List, map}
-use Prim.Native.Nat.{ℕ}
+use Prim.Native.Nat.{ℕ, _%_, _<_, _≤_}
+use lib.Dec.{eqb}
+use lib.ListN.{length, getD, set}
 use Rattle.lists.specs.Choice.{bit}
 use Rattle.board.specs.declared.Row.{Row}
 use Rattle.paths.specs.Rows.{row, num, RowOf}
-use Rattle.table.specs.TableLayer.{rowColumn, parentColumn, numeralColumn, childColumn, nextColumn, classColumn, parentPositionColumn, flagColumn}
+use Rattle.paths.specs.Forest.{memb}
+use Rattle.request.specs.declared.Start.{Start}
+use Rattle.request.specs.declared.Start.the-variants.{ParentZero, Listed}
+use Rattle.sorting.specs.Keys.{keysOf}
+use Rattle.table.specs.TableLayer.{column, rowColumn, parentColumn, numeralColumn, childColumn, nextColumn, classColumn, parentPositionColumn, flagColumn}
 use Rattle.links.specs.Links.{Ordered, firsts, nexts}
 
 -- the rows R in sibling order, and for each the positions of its first child and next sibling, its class of equal numerals and the position of its parent
@@ -33,3 +39,50 @@ pub record AnyPrepared (t : List ℕ) : Type 0 where
   pub prepared : Prepared R t
   pub flags-are : StartFlags R start t
   pub numbered : WithNumerals R
+
+-- ---- what the steps of the preparation leave
+
+-- a row's number, parent and numeral are stored at position p
+pub record RowStored (p number parent numeral : ℕ) (t t′ : List ℕ) : Type 0 where
+  pub long : length t′ ≡ length t
+  pub row-is : rowColumn t′ ≡ set (rowColumn t) p number
+  pub parent-is : parentColumn t′ ≡ set (parentColumn t) p parent
+  pub numeral-is : numeralColumn t′ ≡ set (numeralColumn t) p numeral
+
+-- no column but k differs
+pub record OthersKept (k : ℕ) (t t′ : List ℕ) : Type 0 where
+  pub long : length t′ ≡ length t
+  pub others : (j : ℕ) → j < 8 → j ≢ k → column j t′ ≡ column j t
+
+-- each key's position is one of n
+abbrev pub KeysWithin : (K : List ℕ) (n : ℕ) → Type 0
+KeysWithin K n = (i : ℕ) → i < length K → getD K i 0 % 1024 < n
+
+-- the sorted keys of the numbers F and of the numbers Q, of which there are n
+pub record KeysOfBoth (F Q keys asked : List ℕ) (n : ℕ) : Type 0 where
+  pub few : length F ≤ 1024
+  pub asked-few : length Q ≤ 1024
+  pub asked-long : length Q ≡ n
+  pub keys-are : keys ≡ keysOf F
+  pub asked-are : asked ≡ keysOf Q
+
+-- column k holds, for each number of Q, its first position in F, where the keys are those of F and Q
+pub record FirstsFilled (keys asked : List ℕ) (k : ℕ) (t t′ : List ℕ) : Type 0 where
+  pub kept : OthersKept k t t′
+  pub filled : (F Q : List ℕ) → KeysOfBoth F Q keys asked (length (column k t)) → column k t′ ≡ firsts F Q
+
+-- the links between the rows stand, and the rows are as they were
+pub record Links (t t′ : List ℕ) : Type 0 where
+  pub long : length t′ ≡ length t
+  pub row-is : rowColumn t′ ≡ rowColumn t
+  pub parent-is : parentColumn t′ ≡ parentColumn t
+  pub numeral-is : numeralColumn t′ ≡ numeralColumn t
+  pub child-is : childColumn t′ ≡ firsts (parentColumn t) (numeralColumn t)
+  pub next-is : nextColumn t′ ≡ nexts (parentColumn t)
+  pub class-is : classColumn t′ ≡ firsts (numeralColumn t) (numeralColumn t)
+  pub parent-position-is : parentPositionColumn t′ ≡ firsts (numeralColumn t) (parentColumn t)
+
+-- the flags of the start rows, by the parents and the numerals
+abbrev pub startFlags : Start → List ℕ → List ℕ → List ℕ → List ℕ
+startFlags ParentZero list parent numeral = map (λ x. bit (eqb x 0)) parent
+startFlags Listed list parent numeral = map (λ x. bit (memb x list)) numeral
