@@ -12,9 +12,9 @@ use Rattle.paths.specs.Rows.{row, num, RowOf}
 use Rattle.paths.specs.Forest.{memb}
 use Rattle.request.specs.declared.Start.{Start}
 use Rattle.request.specs.declared.Start.the-variants.{ParentZero, Listed}
-use Rattle.sorting.specs.Keys.{keysOf}
+use Rattle.sorting.specs.KeyLayer.{keysOf}
 use Rattle.table.specs.TableLayer.{column, rowColumn, parentColumn, numeralColumn, childColumn, nextColumn, classColumn, parentPositionColumn, flagColumn}
-use Rattle.links.specs.Links.{Ordered, firsts, nexts}
+use Rattle.links.specs.LinksLayer.{Ordered, firsts, nexts}
 
 -- the rows R in sibling order, and for each the positions of its first child and next sibling, its class of equal numerals and the position of its parent
 pub record Prepared (R : List Row) (t : List ℕ) : Type 0 where
