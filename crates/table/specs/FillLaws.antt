@@ -5,11 +5,11 @@ use mathlib.Core.List.{List, map}
 use Prim.Native.Nat.{ℕ, _+_, _/_, _≤_, _<_}
 use native.Mathlib.Nat.{zero-add}
 use native.Mathlib.Omega.{arith}
-use lib.ListN.{length, getD, set}
+use lib.ListN.{length, getD, set, drop}
 use lib.Seq.{getD-set-other}
 use Rattle.lists.specs.Members.{numbers}
 use Rattle.lists.specs.Counting.{by-place, by-place-length}
-use Rattle.lists.specs.Stores.{Filling, filling-start, filling-step, filling-end}
+use Rattle.lists.specs.Stores.{Filling, filling-start, filling-step, filling-end, getD-sets-below}
 use Rattle.table.specs.TableLayer.{column, Stored}
 use Rattle.table.specs.TableLaws.{column-length}
 
@@ -41,3 +41,12 @@ filled-step k f t t₁ t₂ p x lt e s h =
 
 pub filled-end : (k : ℕ) (f : ℕ → ℕ) (t t₁ : List ℕ) (p : ℕ) → length t / 8 ≤ p → Filled k f t t₁ p → column k t₁ ≡ map f (numbers 0 (length t / 8))
 filled-end k f t t₁ p past h = filling-end (map f (numbers 0 (length t / 8))) (column k t₁) p (omega (arith, by-place-length f 0 (length t / 8))) (h .filling)
+
+-- before p the column holds f
+pub filled-at : (k : ℕ) (f : ℕ → ℕ) (t t₁ : List ℕ) (p q : ℕ) → q < p → q < length t / 8 → Filled k f t t₁ p → getD (column k t₁) q 0 ≡ f q
+filled-at k f t t₁ p q before lt h =
+    let v : List ℕ = map f (numbers 0 (length t / 8)) in
+    sym (getD-sets-below (column k t₁) q p 0 (drop p v) before)
+    ∙ ap (λ (l : List ℕ). getD l q 0) (h .filling .ends)
+    ∙ by-place f 0 (length t / 8) q 0 lt
+    ∙ ap f (zero-add q)

@@ -52,13 +52,6 @@ fn opens(p: u32, level: u32, limit: u32, table: &[u32], marks: &[u32]) -> bool
     level < limit
 }
 
-// Where the part of the index for the body of the node of rank n + 1 begins.
-fn part_of(n: u32) -> usize
-    ensures { λ r. ⌜ r ≡ 8 + 6 * n ⌝ }
-{
-    8 + 6 * (n as usize)
-}
-
 // Writes the body of the row at p, which is the node of rank n + 1, at its part of the index; `after` is what was met with its subtree.
 fn put_node(
     p: u32,
@@ -84,7 +77,7 @@ fn put_node(
         closing: closing(p, table, marks),
         orphan: place.orphan,
     };
-    let start = part_of(n);
+    let start = image::bodies_end(n);
     image::write_body(&mut index[start..], body, after.check)
 }
 
@@ -106,7 +99,7 @@ fn open_row(p: u32, parent: u32, n: u32, table: &[u32], marks: &mut [u32], index
 {
     let c = table::class(table, p) as usize;
     marks[c] = 1;
-    let start = part_of(n);
+    let start = image::bodies_end(n);
     index[start] = p;
     index[start + 1] = parent;
 }
@@ -187,7 +180,7 @@ fn forest(
             };
         }
         let prior = newest - 1;
-        let start = part_of(prior);
+        let start = image::bodies_end(prior);
         let q = lists::get(index, start);
         newest = lists::get(index, start + 1);
         deep -= 1;

@@ -18,7 +18,7 @@ use Rattle.table.proofs.rows.Reads as rows-reads
 use Rattle.walk.proofs.close_row.Reads as close-row-reads
 use Rattle.walk.proofs.first_below.Reads as first-below-reads
 use Rattle.walk.proofs.open_row.Reads as open-row-reads
-use Rattle.walk.proofs.part_of.Reads as part-of-reads
+use Rattle.image.proofs.bodies_end.Reads as bodies-end-reads
 use Rattle.walk.proofs.put_node.Reads as put-node-reads
 
 abbrev Inv-loop : tie.InvT-loop
@@ -221,15 +221,15 @@ sub-prior c =
     let k = kept-newest _ _ (l .index) (l .count) (l .newest) (i .0) (i .5) (c .if4 .left) (i .6) in
     k .1
 
-part-of-requires : tie.Need-part-of-requires Inv-loop μ-loop
-part-of-requires c κs = search needs
+bodies-end-requires : tie.Need-bodies-end-requires Inv-loop μ-loop
+bodies-end-requires c κs = search needs
 
 get-requires : tie.Need-get-requires Inv-loop μ-loop
 get-requires c κs = search needs
 
 add-get : tie.Need-add-get Inv-loop μ-loop
 add-get c =
-    omega (arith, c .before .before .before .part-of .ensures, c .before .before .before .part-of .ok)
+    omega (arith, c .before .before .before .bodies-end .ensures, c .before .before .before .bodies-end .ok)
 
 get-requires-2 : tie.Need-get-requires-2 Inv-loop μ-loop
 get-requires-2 c κs = search needs
@@ -248,7 +248,7 @@ close-row-requires c κs =
     let l = c .before .before .before .before .before .before .before .before .before .before .before .loop in
     let i = l .inv in
     let k = kept-newest _ _ (l .index) (l .count) (l .newest) (i .0) (i .5) (c .before .before .before .before .before .before .before .if4 .left) (i .6) in
-    let at : c .before .before .before .before .get .result ≡ getD (l .index) (8 + 6 * (l .newest - 1)) 0 = c .before .before .before .before .get .ensures ∙ rw (c .before .before .before .before .before .before .part-of .ensures) in
+    let at : c .before .before .before .before .get .result ≡ getD (l .index) (8 + 6 * (l .newest - 1)) 0 = c .before .before .before .before .get .ensures ∙ rw (c .before .before .before .before .before .before .bodies-end .ensures) in
     let lt : c .before .before .before .before .get .result < length (childColumn (a .table .now)) = omega (arith, at, k .3) in
     let placed = s .pre .0 .placed (c .before .before .before .before .get .result) lt in
     (k .2, omega (arith, i .4, s .pre .1), omega (arith, k .2, i .4, i .8, s .pre .1), omega (arith, placed, i .7))
@@ -271,9 +271,9 @@ loop-again-3 c =
     let i = l .inv in
     let k = kept-newest _ _ (l .index) (l .count) (l .newest) (i .0) (i .5) (c .before .before .before .before .before .before .before .before .before .before .before .before .before .if4 .left) (i .6) in
     let past : length (childColumn (a .table .now)) ≤ l .at = omega (arith, c .before .before .before .before .before .before .before .before .before .before .before .before .before .before .before .if1 .left, c .before .before .before .before .before .before .before .before .before .before .before .before .before .before .before .before .rows .ensures 3) in
-    let start = c .before .before .before .before .before .before .before .before .before .before .before .before .part-of .ensures in
+    let start = c .before .before .before .before .before .before .before .before .before .before .before .before .bodies-end .ensures in
     let at : c .before .before .before .before .before .before .before .before .before .before .get .result ≡ getD (l .index) (8 + 6 * (l .newest - 1)) 0 = c .before .before .before .before .before .before .before .before .before .before .get .ensures ∙ rw start in
-    let next : c .before .before .before .before .before .before .before .before .before .before .before .before .part-of .result + 1 ≡ 9 + 6 * (l .newest - 1) = omega (arith, start) in
+    let next : c .before .before .before .before .before .before .before .before .before .before .before .before .bodies-end .result + 1 ≡ 9 + 6 * (l .newest - 1) = omega (arith, start) in
     let up : c .before .before .before .before .before .before .before .before .get2 .result ≡ getD (l .index) (9 + 6 * (l .newest - 1)) 0 = c .before .before .before .before .before .before .before .before .get2 .ensures ∙ rw next in
     let closed = c .before .before .before .before .before .close-row in
     let t = then-close (rowsOf (a .table .now)) (a .place .orphan) (a .bounds .limit) (a .place .level) (a .place .parent) (a .place .root) (a .first) (a .progress .count) (a .bounds .cap) (a .progress .check) (a .marks .now) (a .index .now) (i .0) (l .at) (l .count) (l .sum) (l .newest) (l .deep) _ _ _ _ (l .marks) _ (l .index) _ (i .1) (i .5) (c .before .before .before .before .before .before .before .before .before .before .before .before .before .if4 .left) (i .6) past (i .4) at up (c .next2 .ensures) (closed .ensures .0) (closed .ensures .1) (i .10) in (
@@ -321,7 +321,7 @@ forest-spec =
     same-length-4
     returns-2
     sub-prior
-    part-of-requires
+    bodies-end-requires
     get-requires
     add-get
     get-requires-2
