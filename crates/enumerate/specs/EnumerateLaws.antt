@@ -34,18 +34,19 @@ use Rattle.paths.specs.AdoptWalkLaws.{bodies-adopt, bodies-adopt-none}
 use Rattle.paths.specs.BodyLaws.{regular-rows}
 use Rattle.paths.specs.BoundLaws.{bodies-bounded}
 use Rattle.paths.specs.Refusals.{orphanChoice}
-use Rattle.links.specs.Children.{child-long, parent-long}
+use Rattle.table.specs.TableLayer.{rowColumn, childColumn, flagColumn}
+use Rattle.table.specs.TableLaws.{column-length}
+use Rattle.links.specs.PreparedLayer.{Prepared, StartFlags}
 use Rattle.links.specs.Starts.{flagged-rows}
-use Rattle.orphans.specs.Flags.{lastFlag, lastBelow}
+use Rattle.orphans.specs.OutsideLayer.{lastFlag, lastBelow}
 use Rattle.passes.specs.Passes.{Named, rowsTo}
-use Rattle.walk.specs.Walk.{Rows, rowOf, Clear, Walked, flagged}
+use Rattle.walk.specs.WalkLayer.{Rows, rowsOf, rowOf, Clear, Walked, flagged}
 use Rattle.walk.specs.WalkLaws.{emit-append, walked-join, clear-marked}
-use Rattle.walk.specs.Meaning.{hung}
-use Rattle.walk.specs.declared.Met.{Met}
-use Rattle.enumerate.specs.declared.Begun.{Begun}
-use Rattle.enumerate.specs.Enumerate.{Ready, StartFlags, Spare, Starting, StartsWalked, outside, topsAmong, orphanLevel, orphansFrom, Adopted}
-use Rattle.enumerate.specs.WalkJoins.{flagged-split, walked-longer, written-sized, size-written, check-raised}
-use Rattle.enumerate.specs.OrphanLaws.{row-count}
+use Rattle.walk.specs.declared.Progress.{Progress}
+use Rattle.enumerate.specs.declared.StartProgress.{StartProgress}
+use Rattle.enumerate.specs.EnumerateLayer.{ClearWorkspace, RowsKept, Starting, StartsWalked, outside, topsAmong, orphanLevel, orphansFrom, Adopted}
+use Rattle.enumerate.specs.WalkJoinLaws.{flagged-split, walked-longer, written-sized, size-written, check-raised}
+use Rattle.enumerate.specs.OrphanLaws.{row-count, prepared-listed}
 
 -- ---- the rows of the bodies written so far
 
@@ -211,10 +212,18 @@ regular-shorter R start depth (suc (suc (suc zero))) low none =
     (omega (arith, ap length (root-bodies R start), length-append (regularFor R start None) (orphansFor R (map last (regular R start None)) 0 1 (suc (length (regularFor R start None))))))
 regular-shorter R start depth (suc (suc (suc (suc k)))) low none = absurd (omega arith)
 
-module _ (R : List Row) (start : Row → Bool) (depth : Depth) (row parent numeral child next′ class owner keys flags : List ℕ)
-    (ready : Ready R row parent numeral child next′ class owner keys) (flags-are : StartFlags R start row flags) where
-  abbrev pub W : Rows
-  W = record { child = child; next = next′; cls = class; numeral = numeral; row = row }
+module _ (R : List Row) (start : Row → Bool) (depth : Depth) (t : List ℕ) (ready : Prepared R t) (flags-are : StartFlags R start t) where
+  abbrev row : List ℕ
+  row = rowColumn t
+
+  abbrev child : List ℕ
+  child = childColumn t
+
+  abbrev flags : List ℕ
+  flags = flagColumn t
+
+  abbrev W : Rows
+  W = rowsOf t
 
   -- the bodies of the regular paths that begin with some rows, from rank k on
   abbrev pub E : List ℕ → ℕ → List Body
@@ -227,7 +236,7 @@ module _ (R : List Row) (start : Row → Bool) (depth : Depth) (row parent numer
   flags-long = ap length flags-are ∙ length-map row (λ x. bit (start (boardRow R x)))
 
   pub child-count : length child ≡ length row
-  child-count = child-long R row parent numeral (ready .ordered) parent child next′ (parent-long R row parent numeral (ready .ordered)) (ready .child-is) (ready .next-is)
+  child-count = column-length 3 t ∙ sym (column-length 0 t)
 
   pub all-starts : map (rowOf W) (flagged flags 0 (length child)) ≡ starts R start
   unfolding flagged starts
@@ -244,21 +253,21 @@ module _ (R : List Row) (start : Row → Bool) (depth : Depth) (row parent numer
   last-in p e = omega (arith, last-le flags, child-count, flags-long)
 
   pub limit-rows : (lim : ℕ) → lim ≡ levelLimit depth (length row) → lim ≡ levelLimit depth (length R)
-  limit-rows lim e = e ∙ ap (λ (k : ℕ). levelLimit depth k) (row-count R row parent numeral child next′ class owner keys ready)
+  limit-rows lim e = e ∙ ap (λ (k : ℕ). levelLimit depth k) (row-count R t ready)
 
-  module _ (cap : ℕ) (on on₁ ix ix₁ : List ℕ) (b : Begun) (fits : 8 + 6 * cap ≤ length ix) (clear : Clear on) (lim : ℕ) (limit-is : lim ≡ levelLimit depth (length R))
-      (last-is : ℕ) (walks : StartsWalked (record { child = child; next = next′; cls = class; numeral = numeral; row = row }) flags last-is lim cap on on₁ ix ix₁ b) where
-    abbrev met : Met
-    met = record { count = b .count; check = b .check }
+  module _ (cap : ℕ) (on on₁ ix ix₁ : List ℕ) (b : StartProgress) (fits : 8 + 6 * cap ≤ length ix) (clear : Clear on) (lim : ℕ) (limit-is : lim ≡ levelLimit depth (length R))
+      (last-is : ℕ) (walks : StartsWalked (rowsOf t) (flagColumn t) last-is lim cap on on₁ ix ix₁ b) where
+    abbrev regular-progress : Progress
+    regular-progress = record { count = b .count; check = b .check }
 
     starting : Starting (num R) (par R) (sorted R) (map (rowOf W) (flagged flags 0 (length child))) (map (rowOf W) (flagged flags 0 last-is)) lim cap on on₁ ix ix₁ b
     unfolding StartsWalked
-    starting = walks (num R) (par R) (sorted R) (hung R row parent numeral class (ready .ordered) (ready .class-is) child next′ (ready .child-is) (ready .next-is)) (clear-marked W (num R) on clear)
+    starting = walks (num R) (par R) (sorted R) (prepared-listed R t ready) (clear-marked W (num R) on clear)
 
     -- the regular paths' bodies are written
     pub begun-walked : Walked regular-bodies 0 cap 0 on on₁ ix ix₁ (record { count = b .count; check = b .check })
     begun-walked =
-        subst (λ (L : List Body). Walked L 0 cap 0 on on₁ ix ix₁ met)
+        subst (λ (L : List Body). Walked L 0 cap 0 on on₁ ix ix₁ regular-progress)
         (ap₂ (λ (g : ℕ) (xs : List ℕ). emit (mkBody R false) (num R) (par R) (sorted R) g [] xs 0 0 1 1) limit-is all-starts) (starting .walked)
 
     pub begun-marks : b .count ≤ cap → on₁ ≡ on
@@ -272,14 +281,14 @@ module _ (R : List Row) (start : Row → Bool) (depth : Depth) (row parent numer
 
     -- more nodes than the capacity
     pub over-walked : (orphan : ℕ) → orphan ≤ 3 → (1 < orphan → depth ≡ None) → cap < b .count → Walked (bodies R start depth (orphanChoice orphan)) 0 cap 0 on on₁ ix ix₁ (record { count = b .count; check = b .check })
-    over-walked orphan low none over = walked-longer regular-bodies (bodies R start depth (orphanChoice orphan)) 0 cap 0 on on₁ ix ix₁ ix₁ met begun-walked over (regular-shorter R start depth orphan low none)
+    over-walked orphan low none over = walked-longer regular-bodies (bodies R start depth (orphanChoice orphan)) 0 cap 0 on on₁ ix ix₁ ix₁ regular-progress begun-walked over (regular-shorter R start depth orphan low none)
 
     -- adopt without a start row
     pub no-start-walked : depth ≡ None → starts R start ≡ [] → Walked (bodies R start depth adopt) 0 cap 0 on on₁ ix ix₁ (record { count = b .count; check = b .check })
     no-start-walked none e =
         let r : regular-bodies ≡ [] = ap (λ (xs : List ℕ). E xs 1) e ∙ emit-nil (mkBody R false) (num R) (par R) (sorted R) (levelLimit depth (length R)) [] 0 0 1 1 in
         let w : bodies R start depth adopt ≡ [] = ap (λ (d : Depth). bodies R start d adopt) none ∙ bodies-adopt-none R start e in
-        subst (λ (L : List Body). Walked L 0 cap 0 on on₁ ix ix₁ met) (r ∙ sym w) begun-walked
+        subst (λ (L : List Body). Walked L 0 cap 0 on on₁ ix ix₁ regular-progress) (r ∙ sym w) begun-walked
 
     module _ (fit : b .count ≤ cap) where
       pub count-is : b .count ≡ length regular-bodies
@@ -303,17 +312,17 @@ module _ (R : List Row) (start : Row → Bool) (depth : Depth) (row parent numer
           ap (λ (s : List ℕ). rowAt s k) (begun-walked .written fit) ∙ ap (λ (j : ℕ). rowAt (sets ix 8 (flat L)) j) (sym back) ∙ row-written ix L (k - 1) noBody room i in
           let m : getD L (k - 1) noBody ∈ bodies R start depth ignore = subst (λ (l : List Body). getD L (k - 1) noBody ∈ l) (sym (bodies-ignore R start depth)) (getD-in L (k - 1) noBody i) in
           let r = bodies-bounded R start depth ignore (getD L (k - 1) noBody) m .row-of in
-          (omega (arith, r), omega (arith, r, row-count R row parent numeral child next′ class owner keys ready))
+          (omega (arith, r), omega (arith, r, row-count R t ready))
         where
           back : 1 + (k - 1) ≡ k
           back = omega arith
 
       -- root: the orphan paths as roots
-      pub root-walked : depth ≡ None → (on₂ ix₂ : List ℕ) (r : Met) → Walked (orphansFrom R (rowsTo ix₁ (b .count)) 0 (b .count)) (b .count) cap (b .check) on₁ on₂ ix₁ ix₂ r
+      pub root-walked : depth ≡ None → (on₂ ix₂ : List ℕ) (r : Progress) → Walked (orphansFrom R (rowsTo ix₁ (b .count)) 0 (b .count)) (b .count) cap (b .check) on₁ on₂ ix₁ ix₂ r
           → Walked (bodies R start depth root) 0 cap 0 on on₂ ix ix₂ r
       root-walked none on₂ ix₂ r w =
           subst (λ (L : List Body). Walked L 0 cap 0 on on₂ ix ix₂ r) (sym (whole-is none))
-          (walked-join regular-bodies (orphansFrom R (rowsTo ix₁ (b .count)) 0 (b .count)) 0 cap 0 on on₁ on₂ ix ix₁ ix₂ met r begun-walked fit w)
+          (walked-join regular-bodies (orphansFrom R (rowsTo ix₁ (b .count)) 0 (b .count)) 0 cap 0 on on₁ on₂ ix ix₁ ix₂ regular-progress r begun-walked fit w)
         where
           whole-is : depth ≡ None → bodies R start depth root ≡ regular-bodies ++ orphansFrom R (rowsTo ix₁ (b .count)) 0 (b .count)
           whole-is e =
@@ -323,7 +332,7 @@ module _ (R : List Row) (start : Row → Bool) (depth : Depth) (row parent numer
               ∙ ap (λ (j : ℕ). regularFor R start None ++ orphansFor R (map last (regular R start None)) 0 1 j) k
               ∙ ap₂ (λ (d : Depth) (ends : List ℕ). regularFor R start d ++ orphansFor R ends 0 1 (b .count + 1)) (sym e) (ap (λ (d : Depth). map last (regular R start d)) (sym e) ∙ sym ends-are)
 
-      -- adopt, with a start row at the place last-is
+      -- adopt, with a start row at the position last-is
       module _ (none : depth ≡ None) (last-flag : last-is ≡ lastFlag flags) (some : last-is < length row) where
         s : List ℕ
         s = map (rowOf W) (flagged flags 0 last-is)
@@ -398,15 +407,15 @@ module _ (R : List Row) (start : Row → Bool) (depth : Depth) (row parent numer
         joined : regular-bodies ++ taken ≡ firstFor R s ++ (mine (suc (length own)) ∷ (own ++ taken))
         joined = ap (λ (l : List Body). l ++ taken) regular-is ∙ append-assoc (firstFor R s) (mine (suc (length own)) ∷ own) taken
 
-        pub adopt-walked : (on₂ ix₂ : List ℕ) (r : Met) → Adopted R cap b on₁ on₂ ix₁ ix₂ r → Walked (bodies R start depth adopt) 0 cap 0 on on₂ ix ix₂ r
+        pub adopt-walked : (on₂ ix₂ : List ℕ) (r : Progress) → Adopted R cap b on₁ on₂ ix₁ ix₂ r → Walked (bodies R start depth adopt) 0 cap 0 on on₂ ix ix₂ r
         unfolding taken mine own
         adopt-walked on₂ ix₂ r q =
-            subst (λ (L : List Body). Walked L 0 cap 0 on on₂ ix ix₂ r) (sym whole-is) (go (decLt cap (q .met .count)))
+            subst (λ (L : List Body). Walked L 0 cap 0 on on₂ ix ix₂ r) (sym whole-is) (go (decLt cap (q .progress .count)))
           where
-            both : Walked (firstFor R s ++ (mine (suc (length own)) ∷ (own ++ taken))) 0 cap 0 on on₂ ix (q .middle) (q .met)
+            both : Walked (firstFor R s ++ (mine (suc (length own)) ∷ (own ++ taken))) 0 cap 0 on on₂ ix (q .middle) (q .progress)
             both =
-                subst (λ (L : List Body). Walked L 0 cap 0 on on₂ ix (q .middle) (q .met)) joined
-                (walked-join regular-bodies taken 0 cap 0 on on₁ on₂ ix ix₁ (q .middle) met (q .met) begun-walked fit (q .walked))
+                subst (λ (L : List Body). Walked L 0 cap 0 on on₂ ix (q .middle) (q .progress)) joined
+                (walked-join regular-bodies taken 0 cap 0 on on₁ on₂ ix ix₁ (q .middle) regular-progress (q .progress) begun-walked fit (q .walked))
 
             A : List Body
             A = firstFor R s
@@ -417,10 +426,10 @@ module _ (R : List Row) (start : Row → Bool) (depth : Depth) (row parent numer
             lengths : length (A ++ (mine (suc (length own) + length taken) ∷ T)) ≡ length (A ++ (mine (suc (length own)) ∷ T))
             lengths = length-append A (mine (suc (length own) + length taken) ∷ T) ∙ sym (length-append A (mine (suc (length own)) ∷ T))
 
-            more : q .met .count ≤ cap → q .met .count - b .count ≡ length taken
+            more : q .progress .count ≤ cap → q .progress .count - b .count ≡ length taken
             more h = omega (arith, q .walked .count)
 
-            go : Dec (cap < q .met .count) → Walked (A ++ (mine (suc (length own) + length taken) ∷ T)) 0 cap 0 on on₂ ix ix₂ r
+            go : Dec (cap < q .progress .count) → Walked (A ++ (mine (suc (length own) + length taken) ∷ T)) 0 cap 0 on on₂ ix ix₂ r
             go (yes over) = record {
               count = omega (arith, q .count-is, both .count, lengths);
               marks = λ h. absurd (omega (arith, q .count-is));
@@ -428,7 +437,7 @@ module _ (R : List Row) (start : Row → Bool) (depth : Depth) (row parent numer
               check = λ h. absurd (omega (arith, q .count-is));
             }
             go (no low) =
-                let h : q .met .count ≤ cap = omega arith in
+                let h : q .progress .count ≤ cap = omega arith in
                 let w = q .raised h in
                 let size-is : getD (q .middle) (8 + 6 * b .before + 2) 0 ≡ suc (length own) =
                 ap (λ (l : List ℕ). getD l (8 + 6 * b .before + 2) 0) (both .written h) ∙ ap (λ (j : ℕ). getD (sets ix 8 (flat (A ++ (mine (suc (length own)) ∷ T)))) (8 + 6 * j + 2) 0) before-first
@@ -445,9 +454,12 @@ module _ (R : List Row) (start : Row → Bool) (depth : Depth) (row parent numer
                       ∙ sym (check-raised 0 (length taken) A (mine (suc (length own))) T);
                 }
 
--- the slices beside the index, with the marks as they were
-pub spare-kept : (n : ℕ) (reached masked flags keys scratch on on′ : List ℕ) → on′ ≡ on → Spare n reached masked flags keys scratch on → Spare n reached masked flags keys scratch on′
-spare-kept n reached masked flags keys scratch on on′ e z = subst (λ (m : List ℕ). Spare n reached masked flags keys scratch m) (sym e) z
+pub rows-kept : (t : List ℕ) → RowsKept t t
+rows-kept t = record { long = refl; rows-same = refl; numerals-same = refl; classes-same = refl }
+
+-- the workspace, with the marks as they were
+pub workspace-kept : (n : ℕ) (reached on on′ : List ℕ) → on′ ≡ on → ClearWorkspace n reached on → ClearWorkspace n reached on′
+workspace-kept n reached on on′ e z = subst (λ (m : List ℕ). ClearWorkspace n reached m) (sym e) z
 
 pub choice-two : (orphan : ℕ) → orphan ≤ 3 → (orphan < 2 → ⊥) → (orphan ≡ 3 → ⊥) → orphan ≡ 2
 choice-two orphan a b c = go (ℕ-discrete orphan 2)
@@ -460,6 +472,6 @@ choice-two orphan a b c = go (ℕ-discrete orphan 2)
         three (yes e) = c e
         three (no m) = b (omega arith)
 
-pub by-choice : (R : List Row) (start : Row → Bool) (depth : Depth) (orphan k : ℕ) → orphan ≡ k → (n cap check : ℕ) (on on′ ix ix′ : List ℕ) (r : Met)
+pub by-choice : (R : List Row) (start : Row → Bool) (depth : Depth) (orphan k : ℕ) → orphan ≡ k → (n cap check : ℕ) (on on′ ix ix′ : List ℕ) (r : Progress)
     → Walked (bodies R start depth (orphanChoice k)) n cap check on on′ ix ix′ r → Walked (bodies R start depth (orphanChoice orphan)) n cap check on on′ ix ix′ r
 by-choice R start depth orphan k e n cap check on on′ ix ix′ r w = subst (λ (o : ℕ). Walked (bodies R start depth (orphanChoice o)) n cap check on on′ ix ix′ r) (sym e) w

@@ -1,4 +1,4 @@
-pub mod Enumerate
-pub mod WalkJoins
+pub mod EnumerateLayer
+pub mod WalkJoinLaws
 pub mod OrphanLaws
 pub mod EnumerateLaws
