@@ -83,7 +83,3 @@ pub record Ordered (R : List Row) (rows parent numeral : List ℕ) : Type 0 wher
   pub rows-are : rows ≡ sorted R
   pub parents-are : parent ≡ map (par R) (sorted R)
   pub numerals-are : numeral ≡ map (num R) (sorted R)
-
--- the parents of the rows for which `inside` holds, 0 for the others
-abbrev pub MaskedParents : (R : List Row) (inside : ℕ → Bool) (rows masked : List ℕ) → Type 0
-MaskedParents R inside rows masked = (length masked ≡ length rows) × ((q : ℕ) → q < length rows → getD masked q 0 ≡ cond (inside (getD rows q 0)) (par R (getD rows q 0)) 0)
