@@ -26,11 +26,13 @@ use Rattle.paths.specs.ForestLaws.{eq→eqb}
 use Rattle.paths.specs.Rows.{row as boardRow, num, RowOf}
 use Rattle.paths.specs.SiblingLaws.{sorted-is, sorted-distinct}
 use Rattle.paths.specs.Refusals.{shared, refusal10, refusal11}
-use Rattle.passes.specs.Passes.{Named, Places, ByRow, rowsTo, reachedFlags, anyClosing, kindAt, kindsTo, kindCounts, askedAt, sharesAt, anyShared, minutesAt, totalsTo}
+use Rattle.passes.specs.PassesLayer.{Named, RowsOnce, ByRow, ClassesByRow, CountsClear, ClassesCounted, rowsTo, reachedFlags, anyClosing, classAt, classesTo, classCounts, askedAt, sharesAt, anyShared, minutesAt, totalsTo}
+use Rattle.table.specs.TableLayer.{rowColumn, classColumn, childColumn, nextColumn}
+use Rattle.table.specs.TableLaws.{column-length}
 use Rattle.request.specs.declared.Built.{Built}
 use Rattle.request.specs.Build.{refusedBy}
 use Rattle.walk.specs.declared.Met.{Met}
-use Rattle.finish.specs.Finish.{Written, Classes, Held, leftOver, lateRefusal, lateAnswer, bodyMinutes, Finished}
+use Rattle.finish.specs.FinishLayer.{NodesWritten, Classes, NodesHeld, leftOver, lateRefusal, lateAnswer, bodyMinutes, Finished}
 
 -- ---- rank by rank and body by body
 
@@ -78,7 +80,7 @@ minutes-long R minutes e = ap length e ∙ length-map R (λ (r : Row). r .minute
 
 -- ---- an index that holds the bodies
 
-module _ {R : List Row} {bs : List Body} {s : List ℕ} {n : ℕ} (h : Held R bs s n) where
+module _ {R : List Row} {bs : List Body} {s : List ℕ} {n : ℕ} (h : NodesHeld R bs s n) where
   at : ℕ → Body
   at k = getD bs (k - 1) (bodyOf s 0)
 
@@ -138,78 +140,78 @@ module _ {R : List Row} {bs : List Body} {s : List ℕ} {n : ℕ} (h : Held R bs
   -- ---- shared numerals
 
   module _ {row class : List ℕ} (c : Classes R row class) where
-    place : (x : ℕ) → RowOf R x → (p : ℕ) × (p < length row) × (getD row p 0 ≡ x)
-    place x o = place-of row x 0 (subst (λ (l : List ℕ). x ∈ l) (sym (c .row-is)) (sorted-is R x .1 o))
+    position : (x : ℕ) → RowOf R x → (p : ℕ) × (p < length row) × (getD row p 0 ≡ x)
+    position x o = place-of row x 0 (subst (λ (l : List ℕ). x ∈ l) (sym (c .row-is)) (sorted-is R x .1 o))
 
-    pub places : Places row (length row)
-    places =
+    pub rows-once : RowsOnce row (length row)
+    rows-once =
         record {
           named = λ p b. let r = sorted-is R (getD row p 0) .0 (subst (λ (l : List ℕ). getD row p 0 ∈ l) (c .row-is) (getD-in row p 0 b)) in omega (arith, r, c .row-long);
           differ = λ p q a b. increasing-at (λ x y. x ≢ y) row p q 0 (subst (λ (l : List ℕ). Increasing (λ x y. x ≢ y) l) (sym (c .row-is)) (sorted-distinct R)) a b;
         }
 
-    module _ (kinds : List ℕ) (by-row : ByRow row class kinds) where
-      kindOf : ℕ → ℕ
-      kindOf x = getD kinds (x - 1) 0
+    module _ (classes : List ℕ) (by-row : ByRow row class classes) where
+      classOf : ℕ → ℕ
+      classOf x = getD classes (x - 1) 0
 
-      kind-place : (x : ℕ) (o : RowOf R x) → kindOf x ≡ getD class (place x o .0) 0
-      unfolding kindOf
-      kind-place x o = let r = place x o in ap (λ (y : ℕ). getD kinds (y - 1) 0) (sym (r .2)) ∙ by-row (r .0) (r .1)
+      class-position : (x : ℕ) (o : RowOf R x) → classOf x ≡ getD class (position x o .0) 0
+      unfolding classOf
+      class-position x o = let r = position x o in ap (λ (y : ℕ). getD classes (y - 1) 0) (sym (r .2)) ∙ by-row (r .0) (r .1)
 
-      kind-below : (x : ℕ) → RowOf R x → kindOf x < length row
-      kind-below x o = let r = place x o in omega (arith, kind-place x o, c .below (r .0) (r .1))
+      class-below : (x : ℕ) → RowOf R x → classOf x < length row
+      class-below x o = let r = position x o in omega (arith, class-position x o, c .below (r .0) (r .1))
 
-      pub kinds-below : 1 ≤ length row → length kinds ≡ length row → (m : ℕ) → m ≡ length row → (x : ℕ) → getD kinds x 0 < m
-      unfolding kindOf
-      kinds-below l e m q x = subst (λ (k : ℕ). getD kinds x 0 < k) (sym q) (go (decLt x (length row)))
+      pub classes-below : 1 ≤ length row → length classes ≡ length row → (m : ℕ) → m ≡ length row → (x : ℕ) → getD classes x 0 < m
+      unfolding classOf
+      classes-below l e m q x = subst (λ (k : ℕ). getD classes x 0 < k) (sym q) (go (decLt x (length row)))
         where
-          go : Dec (x < length row) → getD kinds x 0 < length row
+          go : Dec (x < length row) → getD classes x 0 < length row
           go (yes b) =
               let back : x + 1 - 1 ≡ x = omega arith in
-              subst (λ (j : ℕ). getD kinds j 0 < length row) back (kind-below (x + 1) (omega arith, omega (arith, c .row-long)))
-          go (no b) = omega (arith, List·getD-eq-default kinds 0 {n = x} (omega arith))
+              subst (λ (j : ℕ). getD classes j 0 < length row) back (class-below (x + 1) (omega arith, omega (arith, c .row-long)))
+          go (no b) = omega (arith, List·getD-eq-default classes 0 {n = x} (omega arith))
 
-      same-kind : (x y : ℕ) → RowOf R x → RowOf R y → eqb (kindOf x) (kindOf y) ≡ eqb (num R y) (num R x)
-      same-kind x y o u =
-          let p = place x o in
-          let q = place y u in
+      same-class : (x y : ℕ) → RowOf R x → RowOf R y → eqb (classOf x) (classOf y) ≡ eqb (num R y) (num R x)
+      same-class x y o u =
+          let p = position x o in
+          let q = position y u in
           let l = c .same (p .0) (q .0) (p .1) (q .1) in
-          same-test (eqb (kindOf x) (kindOf y)) (eqb (num R y) (num R x))
-          (λ t. eq→eqb (num R y) (num R x) (sym (ap (num R) (sym (p .2)) ∙ l .0 (sym (kind-place x o) ∙ eqb→eq (kindOf x) (kindOf y) t ∙ kind-place y u) ∙ ap (num R) (q .2))))
-          (λ t. eq→eqb (kindOf x) (kindOf y) (kind-place x o ∙ l .1 (ap (num R) (p .2) ∙ sym (eqb→eq (num R y) (num R x) t) ∙ ap (num R) (sym (q .2))) ∙ sym (kind-place y u)))
+          same-test (eqb (classOf x) (classOf y)) (eqb (num R y) (num R x))
+          (λ t. eq→eqb (num R y) (num R x) (sym (ap (num R) (sym (p .2)) ∙ l .0 (sym (class-position x o) ∙ eqb→eq (classOf x) (classOf y) t ∙ class-position y u) ∙ ap (num R) (q .2))))
+          (λ t. eq→eqb (classOf x) (classOf y) (class-position x o ∙ l .1 (ap (num R) (p .2) ∙ sym (eqb→eq (num R y) (num R x) t) ∙ ap (num R) (sym (q .2))) ∙ sym (class-position y u)))
 
-      kinds-are : kindsTo s kinds n ≡ map (λ (b : Body). kindOf (b .row)) bs
-      unfolding kindsTo kindAt kindOf at
-      kinds-are = ranks-map (kindAt s kinds) (λ (b : Body). kindOf (b .row)) bs n (bodyOf s 0) (h .count-is) (λ k a b. ap (λ (x : ℕ). getD kinds (x - 1) 0) (row-at k a b))
+      classes-are : classesTo s classes n ≡ map (λ (b : Body). classOf (b .row)) bs
+      unfolding classesTo classAt classOf at
+      classes-are = ranks-map (classAt s classes) (λ (b : Body). classOf (b .row)) bs n (bodyOf s 0) (h .count-is) (λ k a b. ap (λ (x : ℕ). getD classes (x - 1) 0) (row-at k a b))
 
-      -- the count of the kind of a body is the number of bodies with its numeral
-      count-is : (m : ℕ) → m ≡ length row → (b : Body) → b ∈ bs → getD (kindCounts (kindsTo s kinds n) m) (kindOf (b .row)) 0 ≡ length (filter (λ (a : Body). eqb (a .numeral) (b .numeral)) bs)
-      unfolding kindCounts
+      -- the count of the class of a body is the number of bodies with its numeral
+      count-is : (m : ℕ) → m ≡ length row → (b : Body) → b ∈ bs → getD (classCounts (classesTo s classes n) m) (classOf (b .row)) 0 ≡ length (filter (λ (a : Body). eqb (a .numeral) (b .numeral)) bs)
+      unfolding classCounts
       count-is m e b i =
-          let z : 0 + kindOf (b .row) ≡ kindOf (b .row) = omega arith in
-          by-place (λ k. length (filter (eqb k) (kindsTo s kinds n))) 0 m (kindOf (b .row)) 0 (omega (arith, kind-below (b .row) (h .row-of b i)))
-          ∙ ap (λ (k : ℕ). length (filter (eqb k) (kindsTo s kinds n))) z
-          ∙ ap (λ (l : List ℕ). length (filter (eqb (kindOf (b .row))) l)) kinds-are
-          ∙ count-map (eqb (kindOf (b .row))) (λ (a : Body). kindOf (a .row)) bs
-          ∙ ap length (filter-agree (λ (a : Body). eqb (kindOf (b .row)) (kindOf (a .row))) (λ (a : Body). eqb (a .numeral) (b .numeral)) bs
-          (λ a j. same-kind (b .row) (a .row) (h .row-of b i) (h .row-of a j) ∙ sym (ap₂ eqb (h .numeral-of a j) (h .numeral-of b i))))
+          let z : 0 + classOf (b .row) ≡ classOf (b .row) = omega arith in
+          by-place (λ k. length (filter (eqb k) (classesTo s classes n))) 0 m (classOf (b .row)) 0 (omega (arith, class-below (b .row) (h .row-of b i)))
+          ∙ ap (λ (k : ℕ). length (filter (eqb k) (classesTo s classes n))) z
+          ∙ ap (λ (l : List ℕ). length (filter (eqb (classOf (b .row))) l)) classes-are
+          ∙ count-map (eqb (classOf (b .row))) (λ (a : Body). classOf (a .row)) bs
+          ∙ ap length (filter-agree (λ (a : Body). eqb (classOf (b .row)) (classOf (a .row))) (λ (a : Body). eqb (a .numeral) (b .numeral)) bs
+          (λ a j. same-class (b .row) (a .row) (h .row-of b i) (h .row-of a j) ∙ sym (ap₂ eqb (h .numeral-of a j) (h .numeral-of b i))))
 
-      any-shared-is : (m : ℕ) → m ≡ length row → (leaves : Bool) → anyShared s kinds (kindCounts (kindsTo s kinds n) m) leaves n ≡ any (λ (b : Body). (not leaves || ltb 1 (b .size)) && shared bs b) bs
-      unfolding anyShared sharesAt askedAt kindAt kindOf at
+      any-shared-is : (m : ℕ) → m ≡ length row → (leaves : Bool) → anyShared s classes (classCounts (classesTo s classes n) m) leaves n ≡ any (λ (b : Body). (not leaves || ltb 1 (b .size)) && shared bs b) bs
+      unfolding anyShared sharesAt askedAt classAt classOf at
       any-shared-is m e leaves =
-          ranks-any (sharesAt s kinds counts leaves) (λ (b : Body). (not leaves || ltb 1 (b .size)) && shared bs b) bs n (bodyOf s 0) (h .count-is)
+          ranks-any (sharesAt s classes counts leaves) (λ (b : Body). (not leaves || ltb 1 (b .size)) && shared bs b) bs n (bodyOf s 0) (h .count-is)
           (λ k a b.
           ap₂ (λ (x y : ℕ). (not leaves || ltb 1 x) && ltb 1 y) (size-read (h .holds) k (bodyOf s 0) a (omega (arith, h .count-is)))
-          (ap (λ (x : ℕ). getD counts (getD kinds (x - 1) 0) 0) (row-at k a b) ∙ count-is m e (at k) (at-in k a b)))
+          (ap (λ (x : ℕ). getD counts (getD classes (x - 1) 0) 0) (row-at k a b) ∙ count-is m e (at k) (at-in k a b)))
         where
           counts : List ℕ
-          counts = kindCounts (kindsTo s kinds n) m
+          counts = classCounts (classesTo s classes n) m
 
-      pub shared-is : (counts : List ℕ) (m multi : ℕ) (leaves r : Bool) → m ≡ length row → (multi ≡ 0 → ⊥) → multi ≤ 2 → counts ≡ kindCounts (kindsTo s kinds n) m → leaves ≡ eqb multi 1 → r ≡ anyShared s kinds counts leaves n → r ≡ refusal11 multi bs
+      pub shared-is : (counts : List ℕ) (m multi : ℕ) (leaves r : Bool) → m ≡ length row → (multi ≡ 0 → ⊥) → multi ≤ 2 → counts ≡ classCounts (classesTo s classes n) m → leaves ≡ eqb multi 1 → r ≡ anyShared s classes counts leaves n → r ≡ refusal11 multi bs
       shared-is counts m multi leaves r e z two o l a =
           a
-          ∙ ap (λ (k : List ℕ). anyShared s kinds k leaves n) o
-          ∙ ap (λ (t : Bool). anyShared s kinds (kindCounts (kindsTo s kinds n) m) t n) l
+          ∙ ap (λ (k : List ℕ). anyShared s classes k leaves n) o
+          ∙ ap (λ (t : Bool). anyShared s classes (classCounts (classesTo s classes n) m) t n) l
           ∙ any-shared-is m e (eqb multi 1)
           ∙ go multi z two
         where
@@ -235,6 +237,32 @@ module _ {R : List Row} {bs : List Body} {s : List ℕ} {n : ℕ} (h : Held R bs
   pub some-row : (n ≡ 0 → ⊥) → 1 ≤ length R
   some-row z = let r = named 1 (omega arith) (omega arith) in omega (arith, r)
 
+-- ---- the classes and their counts in the columns of a table
+
+module _ {R : List Row} {bs : List Body} {s : List ℕ} {n : ℕ} (h : NodesHeld R bs s n) {t t₁ t₂ : List ℕ} (c : Classes R (rowColumn t) (classColumn t)) (p : ClassesByRow t t₁) (q : CountsClear t₁ t₂) where
+  children : childColumn t₂ ≡ childColumn t₁
+  children = q .others 3 (omega arith) (omega arith)
+
+  pub counting-named : Named s n (length (childColumn t₂))
+  counting-named = named-in h (length (childColumn t₂)) (omega (arith, column-length 3 t₂, column-length 0 t, q .long, p .long, c .row-long))
+
+  pub counting-clear : nextColumn t₂ ≡ replicate (length (nextColumn t₂)) 0
+  counting-clear = let e : length (nextColumn t₁) ≡ length (nextColumn t₂) = omega (arith, column-length 4 t₁, column-length 4 t₂, q .long) in q .clear ∙ ap (λ (k : ℕ). replicate k 0) e
+
+  pub counting-below : (n ≡ 0 → ⊥) → (x : ℕ) → getD (childColumn t₂) x 0 < length (nextColumn t₂)
+  counting-below some x =
+      subst (λ (l : List ℕ). getD l x 0 < length (nextColumn t₂)) (sym children)
+      (classes-below h c (childColumn t₁) (p .by-row) (omega (arith, some-row h some, c .row-long)) (omega (arith, column-length 3 t₁, column-length 0 t, p .long)) (length (nextColumn t₂)) (omega (arith, column-length 4 t₂, column-length 0 t, q .long, p .long)) x)
+
+  pub counted-named : {t₃ : List ℕ} → ClassesCounted s n t₂ t₃ → Named s n (length (childColumn t₃))
+  counted-named {t₃} k = named-in h (length (childColumn t₃)) (omega (arith, column-length 3 t₃, column-length 0 t, k .long, q .long, p .long, c .row-long))
+
+  pub shared-found : {t₃ : List ℕ} → ClassesCounted s n t₂ t₃ → (multi : ℕ) (leaves r : Bool) → (multi ≡ 0 → ⊥) → multi ≤ 2 → leaves ≡ eqb multi 1 → r ≡ anyShared s (childColumn t₃) (nextColumn t₃) leaves n → r ≡ refusal11 multi bs
+  shared-found {t₃} k multi leaves r z two l a =
+      shared-is h c (childColumn t₁) (p .by-row) (nextColumn t₃) (length (nextColumn t₂)) multi leaves r (omega (arith, column-length 4 t₂, column-length 0 t, q .long, p .long)) z two
+      (k .counts ∙ ap (λ (x : List ℕ). classCounts (classesTo s x n) (length (nextColumn t₂))) children) l
+      (a ∙ ap (λ (x : List ℕ). anyShared s x (nextColumn t₃) leaves n) (k .others 3 (omega arith) (omega arith) ∙ children))
+
 -- zeros
 pub replicate-clear : (l : List ℕ) (n : ℕ) → l ≡ replicate n 0 → length l ≡ n
 replicate-clear l n e = ap length e ∙ length-replicate n 0
@@ -253,17 +281,17 @@ multi-above multi bs e = not-asked multi bs (λ o. absurd (omega arith)) (λ o. 
 
 -- ---- the bodies that a walk has written, and the table of contents over them
 
-module _ {R : List Row} {bs : List Body} {before index : List ℕ} {met : Met} (w : Written R bs before index met) where
-  pub front-held : (index′ : List ℕ) → index′ ≡ cond (ltb (length index) 8) index (sets index 0 (contentsWords (met .count) (met .check))) → index′ ≡ front (imageWords bs) before
+module _ {R : List Row} {bs : List Body} {before index : List ℕ} {progress : Met} (w : NodesWritten R bs before index progress) where
+  pub front-held : (index′ : List ℕ) → index′ ≡ cond (ltb (length index) 8) index (sets index 0 (contentsWords (progress .count) (progress .check))) → index′ ≡ front (imageWords bs) before
   front-held index′ e =
       let l : 8 ≤ length index = omega (arith, ap length (w .written) ∙ length-sets before 8 (flat bs), w .room) in
       e
-      ∙ ap (λ (b : Bool). cond b index (sets index 0 (contentsWords (met .count) (met .check)))) (le-ltb (length index) 8 l)
+      ∙ ap (λ (b : Bool). cond b index (sets index 0 (contentsWords (progress .count) (progress .check)))) (le-ltb (length index) 8 l)
       ∙ ap₂ (λ (a b : ℕ). sets index 0 (contentsWords a b)) (w .count-is) (w .check-is)
       ∙ ap (λ (x : List ℕ). sets x 0 (contentsWords (length bs) (checked 0 (flat bs)))) (w .written)
       ∙ image-written bs before (w .room)
 
-  pub held : (index′ : List ℕ) → index′ ≡ cond (ltb (length index) 8) index (sets index 0 (contentsWords (met .count) (met .check))) → Held R bs index′ (met .count)
+  pub held : (index′ : List ℕ) → index′ ≡ cond (ltb (length index) 8) index (sets index 0 (contentsWords (progress .count) (progress .check))) → NodesHeld R bs index′ (progress .count)
   held index′ e =
       record {
         count-is = w .count-is;
@@ -283,9 +311,9 @@ late R choice bs before index′ totals totals′ r k z e q =
     record { answer = q ∙ sym a; index-is = λ o. absurd (omega arith); totals-are = λ o. absurd (omega arith) }
 
 -- the table of contents is written, and s is the index then
-module _ (R : List Row) (choice : Choice) (bs : List Body) (before index : List ℕ) (met : Met) (w : Written R bs before index met) (s : List ℕ)
-    (e : s ≡ cond (ltb (length index) 8) index (sets index 0 (contentsWords (met .count) (met .check)))) (totals totals′ : List ℤ) (index′ : List ℕ) (r : Built)
-    (closed : Bool) (closed-is : closed ≡ (eqb (choice .cycle) 1 && anyClosing s (met .count))) where
+module _ (R : List Row) (choice : Choice) (bs : List Body) (before index : List ℕ) (progress : Met) (w : NodesWritten R bs before index progress) (s : List ℕ)
+    (e : s ≡ cond (ltb (length index) 8) index (sets index 0 (contentsWords (progress .count) (progress .check)))) (totals totals′ : List ℤ) (index′ : List ℕ) (r : Built)
+    (closed : Bool) (closed-is : closed ≡ (eqb (choice .cycle) 1 && anyClosing s (progress .count))) where
   closes : closed ≡ refusal10 (choice .cycle) bs
   closes = closed-is ∙ closing-is (held w s e) (choice .cycle)
 
@@ -298,7 +326,7 @@ module _ (R : List Row) (choice : Choice) (bs : List Body) (before index : List 
     unfolding lateRefusal
     finished-shared t q = late R choice bs before index′ totals totals′ r 11 (omega arith) (simp (sym closes ∙ clear, sym share-is ∙ t)) q
 
-    module _ (alone : share ≡ false) (reached : List ℕ) (m : ℕ) (rows : m ≡ length R) (reached-is : reached ≡ reachedFlags (rowsTo s (met .count)) m)
+    module _ (alone : share ≡ false) (reached : List ℕ) (m : ℕ) (rows : m ≡ length R) (reached-is : reached ≡ reachedFlags (rowsTo s (progress .count)) m)
         (left : ℕ) (left-are : left ≡ length (filter (eqb 0) reached)) (over : Bool) (over-is : over ≡ (eqb (choice .orphan) 1 && not (eqb left 0))) where
       lefts : left ≡ leftOver R bs
       lefts = left-are ∙ ap (λ (l : List ℕ). length (filter (eqb 0) l)) reached-is ∙ left-is (held w s e) m rows
@@ -314,7 +342,7 @@ module _ (R : List Row) (choice : Choice) (bs : List Body) (before index : List 
       unfolding lateRefusal
       none f = simp (sym closes ∙ clear, sym share-is ∙ alone, sym overs ∙ f)
 
-      pub finished-all : over ≡ false → (minutes : List ℤ) → minutes ≡ map (λ (a : Row). a .minutes) R → totals′ ≡ front (totalsTo s minutes (met .count)) totals → index′ ≡ s → r ≡ record { refusal = 0; nodes = met .count; left = left } → Finished R choice bs before index′ totals totals′ r
+      pub finished-all : over ≡ false → (minutes : List ℤ) → minutes ≡ map (λ (a : Row). a .minutes) R → totals′ ≡ front (totalsTo s minutes (progress .count)) totals → index′ ≡ s → r ≡ record { refusal = 0; nodes = progress .count; left = left } → Finished R choice bs before index′ totals totals′ r
       unfolding lateAnswer
       finished-all f minutes u v x q =
           let z = none f in

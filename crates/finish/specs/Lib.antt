@@ -1,2 +1,2 @@
-pub mod Finish
+pub mod FinishLayer
 pub mod FinishLaws

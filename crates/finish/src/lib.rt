@@ -1,15 +1,16 @@
-// What is left to do once the bodies of all nodes stand in the index: the table of contents, refusals 10 to 12, the rows left over, the running totals.
+// What is left to do once the bodies of all nodes stand in the index: its table of contents, refusals 10 to 12, the rows left over, the running totals.
 ghost use mathlib.Core.Path.{_≡_};
 ghost use mathlib.Core.Bool.{not, _&&_};
 ghost use mathlib.Core.List.{List, map};
 ghost use Prim.Native.Nat.{ℕ, _≤_, _<_};
 ghost use lib.Dec.{eqb};
-ghost use lib.ListN.{length, replicate};
+ghost use lib.ListN.{length};
 ghost use Rattle.board.specs.declared.Row.{Row};
 ghost use Rattle.image.specs.declared.Body.{Body};
-ghost use Rattle.passes.specs.Passes.{anyClosing};
+ghost use Rattle.passes.specs.PassesLayer.{anyClosing};
 ghost use Rattle.paths.specs.Refusals.{refusal11};
-ghost use Rattle.finish.specs.Finish.{Written, Classes, AnyNodes, Held, AnyHeld, Finished};
+ghost use Rattle.table.specs.TableLayer.{rowColumn, classColumn};
+ghost use Rattle.finish.specs.FinishLayer.{NodesWritten, Classes, AnyNodesWritten, NodesHeld, AnyNodesHeld, Finished};
 use options::Choice;
 use request::Built;
 use walk::Met;
@@ -25,19 +26,10 @@ fn is_closed(cycle: u32, index: &[u32], n: usize) -> bool
     passes::any_closing(index, n)
 }
 
-// Whether nodes share a numeral in a way that is refused.
-fn is_shared(
-    multi: u32,
-    index: &[u32],
-    n: usize,
-    row: &[u32],
-    class: &[u32],
-    kinds: &mut [u32],
-    counts: &mut [u32],
-) -> bool
-    requires { ⌜ AnyHeld (now row) (now class) (now index) n ⌝ }
-    requires { ⌜ (length (now kinds) ≡ length (now row)) × (now counts ≡ replicate (length (now row)) 0) ⌝ }
-    ensures { λ r. ⌜ ((R : List Row) (bs : List Body) → Held R bs (now (index .entry)) n → Classes R (now (row .entry)) (now (class .entry)) → r ≡ refusal11 multi bs) ⌝ }
+// Whether nodes share a numeral in a way that is refused. Classes and counts go into the table's columns of links, which nothing reads after the walk.
+fn is_shared(multi: u32, index: &[u32], n: usize, table: &mut [u32]) -> bool
+    requires { ⌜ AnyNodesHeld (now table) (now index) n ⌝ }
+    ensures { λ r. ⌜ ((R : List Row) (bs : List Body) → NodesHeld R bs (now (index .entry)) n → Classes R (rowColumn (now (table .entry))) (classColumn (now (table .entry))) → r ≡ refusal11 multi bs) ⌝ }
 {
     if multi == 0 {
         return false;
@@ -48,9 +40,10 @@ fn is_shared(
     if n == 0 {
         return false;
     }
-    passes::scatter(row, class, kinds);
-    passes::count_kinds(index, n, kinds, counts);
-    passes::any_shared(index, n, kinds, counts, multi == 1)
+    passes::classes_by_row(table);
+    passes::clear_counts(table);
+    passes::count_classes(index, n, table);
+    passes::any_shared(index, n, table, multi == 1)
 }
 
 // Whether rows are left over and that is refused.
@@ -66,28 +59,26 @@ fn is_left(orphan: u32, left: u32) -> bool
 // Finishes a build whose bodies are written. Where it is refused, the index and the totals may hold anything.
 pub fn finish(
     choice: Choice,
-    met: Met,
-    row: &[u32],
-    class: &[u32],
+    progress: Met,
     minutes: &[i32],
+    table: &mut [u32],
     reached: &mut [u32],
-    kinds: &mut [u32],
-    counts: &mut [u32],
     index: &mut [u32],
     totals: &mut [i64],
 ) -> Built
-    requires { ⌜ AnyNodes (now row) (now class) (now minutes) (now index) met ⌝ }
-    requires { ⌜ (now reached ≡ replicate (length (now row)) 0) × (length (now kinds) ≡ length (now row)) × (now counts ≡ replicate (length (now row)) 0) × (met .count < length (now totals)) ⌝ }
-    ensures { λ r. ⌜ ((R : List Row) (bs : List Body) (before : List ℕ) → Written R bs before (now (index .entry)) met → Classes R (now (row .entry)) (now (class .entry)) → now (minutes .entry) ≡ map (λ (r : Row). r .minutes) R → Finished R choice bs before (now (index .exit)) (now (totals .entry)) (now (totals .exit)) r) ⌝ }
+    requires { ⌜ AnyNodesWritten (now table) (now minutes) (now index) progress ⌝ }
+    requires { ⌜ (length (now reached) ≡ length (rowColumn (now table))) × (progress .count < length (now totals)) ⌝ }
+    ensures { λ r. ⌜ ((R : List Row) (bs : List Body) (before : List ℕ) → NodesWritten R bs before (now (index .entry)) progress → Classes R (rowColumn (now (table .entry))) (classColumn (now (table .entry))) → now (minutes .entry) ≡ map (λ (r : Row). r .minutes) R → Finished R choice bs before (now (index .exit)) (now (totals .entry)) (now (totals .exit)) r) ⌝ }
 {
-    let n = met.count as usize;
-    image::write_contents(index, met.count, met.check);
+    let n = progress.count as usize;
+    image::write_contents(index, progress.count, progress.check);
     if is_closed(choice.cycle, index, n) {
         return request::refused(10);
     }
-    if is_shared(choice.multi, index, n, row, class, kinds, counts) {
+    if is_shared(choice.multi, index, n, table) {
         return request::refused(11);
     }
+    lists::clear(reached);
     passes::mark_rows(index, n, reached);
     let left = passes::count_clear(reached) as u32;
     if is_left(choice.orphan, left) {
@@ -96,7 +87,7 @@ pub fn finish(
     passes::fill_totals(index, n, minutes, totals);
     Built {
         refusal: 0,
-        nodes: met.count,
+        nodes: progress.count,
         left: left,
     }
 }

@@ -1,8 +1,9 @@
 use mathlib.Core.Path.{refl, _∙_}
+use Rattle.finish.specs.FinishLaws.{held, few-ranks, named-in, count-few, minutes-long, replicate-clear, clear-long, finished-closed, finished-shared, finished-left, finished-all}
 use borrow.Author.Needs.{needs}
 use native.Mathlib.Omega.{arith}
+use Prim.Native.Nat.{_-_}
 use lib.ListN.{length}
-use Rattle.finish.specs.FinishLaws.{held, few-ranks, named-in, replicate-clear, clear-long, count-few, minutes-long, finished-closed, finished-shared, finished-left, finished-all}
 use Rattle.finish.proofs.finish.Statement.{statement}
 use Rattle.finish.proofs.finish.Tie as tie
 
@@ -14,7 +15,8 @@ write-contents-requires c κs = search needs
 
 is-closed-requires : tie.Need-is-closed-requires
 is-closed-requires c κs =
-    few-ranks (held (c .before .before .before .before .before .before .before .before .before .before .before .before .pre .0 .written) _ (c .before .before .before .write-contents .ensures))
+    let p = c .before .before .before .before .before .before .before .before .before .pre in
+    few-ranks (held (p .0 .written) _ (c .before .before .before .write-contents .ensures))
 
 refused-requires : tie.Need-refused-requires
 refused-requires c κs = search needs
@@ -24,12 +26,13 @@ same-length c = search needs
 
 returns : tie.Need-returns
 returns c =
-    λ R bs before w k m. finished-closed R _ bs before _ _ w _ (c .before .before .before .before .before .before .write-contents .ensures) _ _ _ _ _ (c .before .before .is-closed .ensures) (c .before .if1 .taken) (c .refused .ensures)
+    let e = c .before .before .before .before .before .before .write-contents .ensures in
+    λ R bs before w k m. finished-closed R _ bs before _ _ w _ e _ _ _ _ _ (c .before .before .is-closed .ensures) (c .before .if1 .taken) (c .refused .ensures)
 
 is-shared-requires : tie.Need-is-shared-requires
 is-shared-requires c κs =
-    let p = c .before .before .before .before .before .before .before .before .before .before .before .before .before .before .before .before .before .pre in
-    (record { R = p .0 .R; bs = p .0 .bs; held = held (p .0 .written) _ (c .before .before .before .before .before .before .before .before .write-contents .ensures); classes = p .0 .classes }, (p .1 .1, p .1 .2))
+    let p = c .before .before .before .before .before .before .before .before .before .before .before .before .before .pre in
+    record { R = p .0 .R; bs = p .0 .bs; held = held (p .0 .written) _ (c .before .before .before .before .before .before .before .write-contents .ensures); classes = p .0 .classes }
 
 refused-requires-2 : tie.Need-refused-requires-2
 refused-requires-2 c κs = search needs
@@ -40,28 +43,28 @@ same-length-2 c = search needs
 same-length-3 : tie.Need-same-length-3
 same-length-3 c = search needs
 
-same-length-4 : tie.Need-same-length-4
-same-length-4 c = search needs
-
 returns-2 : tie.Need-returns-2
 returns-2 c =
-    let e = c .before .before .before .before .before .before .before .before .before .before .before .before .before .before .before .write-contents .ensures in
-    λ R bs before w k m. finished-shared R _ bs before _ _ w _ e _ _ _ _ _ (c .before .before .before .before .before .before .before .before .before .before .before .is-closed .ensures) (c .before .before .before .before .before .before .before .before .before .before .if1 .left) _ (c .before .before .before .before .before .before .is-shared .ensures R bs (held w _ e) k) (c .before .if2 .taken) (c .refused2 .ensures)
+    let e = c .before .before .before .before .before .before .before .before .before .before .before .before .write-contents .ensures in
+    λ R bs before w k m. finished-shared R _ bs before _ _ w _ e _ _ _ _ _ (c .before .before .before .before .before .before .before .before .is-closed .ensures) (c .before .before .before .before .before .before .before .if1 .left) _ (c .before .before .before .before .is-shared .ensures R bs (held w _ e) k) (c .before .if2 .taken) (c .refused2 .ensures)
+
+clear-requires : tie.Need-clear-requires
+clear-requires c κs = search needs
 
 mark-rows-requires : tie.Need-mark-rows-requires
 mark-rows-requires c κs =
-    let p = c .before .before .before .before .before .before .before .before .before .before .before .before .before .before .before .before .before .before .before .before .before .before .before .before .before .pre in
-    let h = held (p .0 .written) _ (c .before .before .before .before .before .before .before .before .before .before .before .before .before .before .before .before .write-contents .ensures) in
-    (few-ranks h, named-in h _ (replicate-clear (c .before .before .before .before .before .before .before .before .before .before .before .before .before .before .before .before .before .before .before .before .before .before .before .before .before .args .reached .now) (length (c .before .before .before .before .before .before .before .before .before .before .before .before .before .before .before .before .before .before .before .before .before .before .before .before .before .args .row .now)) (p .1 .0) ∙ p .0 .classes .row-long), clear-long (c .before .before .before .before .before .before .before .before .before .before .before .before .before .before .before .before .before .before .before .before .before .before .before .before .before .args .reached .now) (length (c .before .before .before .before .before .before .before .before .before .before .before .before .before .before .before .before .before .before .before .before .before .before .before .before .before .args .row .now)) (p .1 .0))
+    let p = c .before .before .before .before .before .before .before .before .before .before .before .before .before .before .before .before .before .before .before .before .before .before .before .pre in
+    let h = held (p .0 .written) _ (c .before .before .before .before .before .before .before .before .before .before .before .before .before .before .before .before .before .write-contents .ensures) in
+    let z = c .before .before .before .before .clear .ensures in
+    (few-ranks h, named-in h _ (replicate-clear (c .before .before .before .before .clear .last .0) (length (c .before .before .before .before .before .before .before .before .before .before .before .before .before .before .before .before .before .before .before .before .before .before .before .args .reached .now)) z ∙ p .1 .0 ∙ p .0 .classes .row-long), clear-long (c .before .before .before .before .clear .last .0) (length (c .before .before .before .before .before .before .before .before .before .before .before .before .before .before .before .before .before .before .before .before .before .before .before .args .reached .now)) z)
 
 count-clear-requires : tie.Need-count-clear-requires
 count-clear-requires c κs = search needs
 
 cast-left : tie.Need-cast-left
 cast-left c =
-    let p = c .before .before .before .before .before .before .before .before .before .before .before .before .before .before .before .before .before .before .before .before .before .before .before .before .before .before .before .before .before .before .pre in
-    let few = count-few _ _ _ _ (c .before .before .before .before .mark-rows .ensures) (c .count-clear .ensures) (omega (arith, replicate-clear (c .before .before .before .before .before .before .before .before .before .before .before .before .before .before .before .before .before .before .before .before .before .before .before .before .before .before .before .before .before .before .args .reached .now) (length (c .before .before .before .before .before .before .before .before .before .before .before .before .before .before .before .before .before .before .before .before .before .before .before .before .before .before .before .before .before .before .args .row .now)) (p .1 .0), p .0 .classes .row-long, p .0 .classes .few)) in
-    omega (arith, few)
+    let p = c .before .before .before .before .before .before .before .before .before .before .before .before .before .before .before .before .before .before .before .before .before .before .before .before .before .before .before .before .pre in
+    omega (arith, count-few _ _ _ _ (c .before .before .before .before .mark-rows .ensures) (c .count-clear .ensures) (omega (arith, replicate-clear (c .before .before .before .before .before .before .before .before .before .clear .last .0) (length (c .before .before .before .before .before .before .before .before .before .before .before .before .before .before .before .before .before .before .before .before .before .before .before .before .before .before .before .before .args .reached .now)) (c .before .before .before .before .before .before .before .before .before .clear .ensures), p .1 .0, p .0 .classes .row-long, p .0 .classes .few)))
 
 is-left-requires : tie.Need-is-left-requires
 is-left-requires c κs = search needs
@@ -69,11 +72,26 @@ is-left-requires c κs = search needs
 refused-requires-3 : tie.Need-refused-requires-3
 refused-requires-3 c κs = search needs
 
+same-length-4 : tie.Need-same-length-4
+same-length-4 c = search needs
+
 same-length-5 : tie.Need-same-length-5
 same-length-5 c = search needs
 
 same-length-6 : tie.Need-same-length-6
 same-length-6 c = search needs
+
+returns-3 : tie.Need-returns-3
+returns-3 c =
+    let p = c .before .before .before .before .before .before .before .before .before .before .before .before .before .before .before .before .before .before .before .before .before .before .before .before .before .before .before .before .before .before .before .pre in
+    let e = c .before .before .before .before .before .before .before .before .before .before .before .before .before .before .before .before .before .before .before .before .before .before .before .before .before .write-contents .ensures in
+    λ R bs before w k m. finished-left R _ bs before _ _ w _ e _ _ _ _ _ (c .before .before .before .before .before .before .before .before .before .before .before .before .before .before .before .before .before .before .before .before .before .is-closed .ensures) (c .before .before .before .before .before .before .before .before .before .before .before .before .before .before .before .before .before .before .before .before .if1 .left) _ (c .before .before .before .before .before .before .before .before .before .before .before .before .before .before .before .before .before .is-shared .ensures R bs (held w _ e) k) (c .before .before .before .before .before .before .before .before .before .before .before .before .before .before .if2 .left) _ _ (replicate-clear (c .before .before .before .before .before .before .before .before .before .before .before .before .clear .last .0) (length (c .before .before .before .before .before .before .before .before .before .before .before .before .before .before .before .before .before .before .before .before .before .before .before .before .before .before .before .before .before .before .before .args .reached .now)) (c .before .before .before .before .before .before .before .before .before .before .before .before .clear .ensures) ∙ p .1 .0 ∙ k .row-long) (c .before .before .before .before .before .before .before .mark-rows .ensures) _ (c .before .before .before .count-clear .ensures) _ (c .before .before .is-left .ensures) (c .before .if3 .taken) (c .refused3 .ensures)
+
+fill-totals-requires : tie.Need-fill-totals-requires
+fill-totals-requires c κs =
+    let p = c .before .before .before .before .before .before .before .before .before .before .before .before .before .before .before .before .before .before .before .before .before .before .before .before .before .before .before .before .before .before .before .before .pre in
+    let h = held (p .0 .written) _ (c .before .before .before .before .before .before .before .before .before .before .before .before .before .before .before .before .before .before .before .before .before .before .before .before .before .before .write-contents .ensures) in
+    (few-ranks h, p .1 .1, named-in h _ (minutes-long (p .0 .R) _ (p .0 .minutes-are)))
 
 same-length-7 : tie.Need-same-length-7
 same-length-7 c = search needs
@@ -81,38 +99,17 @@ same-length-7 c = search needs
 same-length-8 : tie.Need-same-length-8
 same-length-8 c = search needs
 
-returns-3 : tie.Need-returns-3
-returns-3 c =
-    let p = c .before .before .before .before .before .before .before .before .before .before .before .before .before .before .before .before .before .before .before .before .before .before .before .before .before .before .before .before .before .before .before .before .before .pre in
-    let e = c .before .before .before .before .before .before .before .before .before .before .before .before .before .before .before .before .before .before .before .before .before .before .before .before .write-contents .ensures in
-    λ R bs before w k m. finished-left R _ bs before _ _ w _ e _ _ _ _ _ (c .before .before .before .before .before .before .before .before .before .before .before .before .before .before .before .before .before .before .before .before .is-closed .ensures) (c .before .before .before .before .before .before .before .before .before .before .before .before .before .before .before .before .before .before .before .if1 .left) _ (c .before .before .before .before .before .before .before .before .before .before .before .before .before .before .before .is-shared .ensures R bs (held w _ e) k) (c .before .before .before .before .before .before .before .before .before .before .if2 .left) _ _ (replicate-clear (c .before .before .before .before .before .before .before .before .before .before .before .before .before .before .before .before .before .before .before .before .before .before .before .before .before .before .before .before .before .before .before .before .before .args .reached .now) (length (c .before .before .before .before .before .before .before .before .before .before .before .before .before .before .before .before .before .before .before .before .before .before .before .before .before .before .before .before .before .before .before .before .before .args .row .now)) (p .1 .0) ∙ k .row-long) (c .before .before .before .before .before .before .before .mark-rows .ensures) _ (c .before .before .before .count-clear .ensures) _ (c .before .before .is-left .ensures) (c .before .if3 .taken) (c .refused3 .ensures)
-
-fill-totals-requires : tie.Need-fill-totals-requires
-fill-totals-requires c κs =
-    let p = c .before .before .before .before .before .before .before .before .before .before .before .before .before .before .before .before .before .before .before .before .before .before .before .before .before .before .before .before .before .before .before .before .before .before .pre in
-    let h = held (p .0 .written) _ (c .before .before .before .before .before .before .before .before .before .before .before .before .before .before .before .before .before .before .before .before .before .before .before .before .before .write-contents .ensures) in
-    (few-ranks h, p .1 .3, named-in h _ (minutes-long (p .0 .R) _ (p .0 .minutes-are)))
-
 same-length-9 : tie.Need-same-length-9
 same-length-9 c = search needs
 
 same-length-10 : tie.Need-same-length-10
 same-length-10 c = search needs
 
-same-length-11 : tie.Need-same-length-11
-same-length-11 c = search needs
-
-same-length-12 : tie.Need-same-length-12
-same-length-12 c = search needs
-
-same-length-13 : tie.Need-same-length-13
-same-length-13 c = search needs
-
 returns-4 : tie.Need-returns-4
 returns-4 c =
-    let p = c .before .before .before .before .before .before .before .before .before .before .before .before .before .before .before .before .before .before .before .before .before .before .before .before .before .before .before .before .before .before .before .before .before .before .before .before .pre in
-    let e = c .before .before .before .before .before .before .before .before .before .before .before .before .before .before .before .before .before .before .before .before .before .before .before .before .before .before .before .write-contents .ensures in
-    λ R bs before w k m. finished-all R _ bs before _ _ w _ e _ _ _ _ _ (c .before .before .before .before .before .before .before .before .before .before .before .before .before .before .before .before .before .before .before .before .before .before .before .is-closed .ensures) (c .before .before .before .before .before .before .before .before .before .before .before .before .before .before .before .before .before .before .before .before .before .before .if1 .left) _ (c .before .before .before .before .before .before .before .before .before .before .before .before .before .before .before .before .before .before .is-shared .ensures R bs (held w _ e) k) (c .before .before .before .before .before .before .before .before .before .before .before .before .before .if2 .left) _ _ (replicate-clear (c .before .before .before .before .before .before .before .before .before .before .before .before .before .before .before .before .before .before .before .before .before .before .before .before .before .before .before .before .before .before .before .before .before .before .before .before .args .reached .now) (length (c .before .before .before .before .before .before .before .before .before .before .before .before .before .before .before .before .before .before .before .before .before .before .before .before .before .before .before .before .before .before .before .before .before .before .before .before .args .row .now)) (p .1 .0) ∙ k .row-long) (c .before .before .before .before .before .before .before .before .before .before .mark-rows .ensures) _ (c .before .before .before .before .before .before .count-clear .ensures) _ (c .before .before .before .before .before .is-left .ensures) (c .before .before .before .before .if3 .left) _ m (c .before .fill-totals .ensures) refl refl
+    let p = c .before .before .before .before .before .before .before .before .before .before .before .before .before .before .before .before .before .before .before .before .before .before .before .before .before .before .before .before .before .before .before .before .before .before .pre in
+    let e = c .before .before .before .before .before .before .before .before .before .before .before .before .before .before .before .before .before .before .before .before .before .before .before .before .before .before .before .before .write-contents .ensures in
+    λ R bs before w k m. finished-all R _ bs before _ _ w _ e _ _ _ _ _ (c .before .before .before .before .before .before .before .before .before .before .before .before .before .before .before .before .before .before .before .before .before .before .before .before .is-closed .ensures) (c .before .before .before .before .before .before .before .before .before .before .before .before .before .before .before .before .before .before .before .before .before .before .before .if1 .left) _ (c .before .before .before .before .before .before .before .before .before .before .before .before .before .before .before .before .before .before .before .before .is-shared .ensures R bs (held w _ e) k) (c .before .before .before .before .before .before .before .before .before .before .before .before .before .before .before .before .before .if2 .left) _ _ (replicate-clear (c .before .before .before .before .before .before .before .before .before .before .before .before .before .before .before .clear .last .0) (length (c .before .before .before .before .before .before .before .before .before .before .before .before .before .before .before .before .before .before .before .before .before .before .before .before .before .before .before .before .before .before .before .before .before .before .args .reached .now)) (c .before .before .before .before .before .before .before .before .before .before .before .before .before .before .before .clear .ensures) ∙ p .1 .0 ∙ k .row-long) (c .before .before .before .before .before .before .before .before .before .before .mark-rows .ensures) _ (c .before .before .before .before .before .before .count-clear .ensures) _ (c .before .before .before .before .before .is-left .ensures) (c .before .before .before .before .if3 .left) _ m (c .before .fill-totals .ensures) refl refl
 
 pub finish-spec : {M : Type 1} → statement M
 finish-spec =
@@ -128,22 +125,20 @@ finish-spec =
     refused-requires-2
     same-length-2
     same-length-3
-    same-length-4
     returns-2
+    clear-requires
     mark-rows-requires
     count-clear-requires
     cast-left
     is-left-requires
     refused-requires-3
+    same-length-4
     same-length-5
     same-length-6
-    same-length-7
-    same-length-8
     returns-3
     fill-totals-requires
+    same-length-7
+    same-length-8
     same-length-9
     same-length-10
-    same-length-11
-    same-length-12
-    same-length-13
     returns-4)

@@ -1,10 +1,9 @@
-use mathlib.Core.Path.{refl, sym, subst}
+use mathlib.Core.Path.{refl, ap}
+use Rattle.finish.specs.FinishLaws.{few-ranks, rows-once, no-ranks, multi-zero, multi-above, counting-named, counting-clear, counting-below, counted-named, shared-found}
 use borrow.Author.Needs.{needs}
 use native.Mathlib.Omega.{arith}
 use Prim.Native.Nat.{_-_}
 use lib.ListN.{length}
-use Rattle.passes.specs.Passes.{Places}
-use Rattle.finish.specs.FinishLaws.{few-ranks, places, kinds-below, shared-is, no-ranks, some-row, named-in, multi-zero, multi-above, replicate-clear, clear-long}
 use Rattle.finish.proofs.is_shared.Statement.{statement}
 use Rattle.finish.proofs.is_shared.Tie as tie
 
@@ -18,38 +17,40 @@ returns-2 c =
 
 returns-3 : tie.Need-returns-3
 returns-3 c =
-    λ R bs h k. no-ranks h (c .if3 .taken) (c .before .before .before .before .before .before .before .before .args .multi)
+    λ R bs h k. no-ranks h (c .if3 .taken) (c .before .before .before .before .before .args .multi)
 
-scatter-requires : tie.Need-scatter-requires
-scatter-requires c κs =
-    let p = c .before .before .before .before .before .before .before .before .before .pre in
-    subst (Places _) (sym (p .1 .0)) (places (p .0 .held) (p .0 .classes))
+classes-by-row-requires : tie.Need-classes-by-row-requires
+classes-by-row-requires c κs =
+    let a = c .before .before .before .before .before .before .pre in
+    (rows-once (a .held) (a .classes), omega (arith, a .classes .row-long, a .classes .few))
 
-count-kinds-requires : tie.Need-count-kinds-requires
-count-kinds-requires c κs =
-    let p = c .before .before .before .before .before .before .before .before .before .before .before .before .before .before .pre in
-    let a = p .0 in (
-      (few-ranks (a .held), named-in (a .held) _ (omega (arith, c .before .before .before .kinds .given, p .1 .0, a .classes .row-long)), clear-long (c .before .before .before .before .before .before .before .before .before .before .before .before .before .before .args .counts .now) (length (c .before .before .before .before .before .before .before .before .before .before .before .before .before .before .args .row .now)) (p .1 .1)),
-      kinds-below (a .held) (a .classes) (c .before .before .before .before .scatter .last .1 .1 .0) (c .before .before .before .before .scatter .ensures) (omega (arith, some-row (a .held) (c .before .before .before .before .before .before .if3 .left), a .classes .row-long)) (omega (arith, c .before .before .before .kinds .given, p .1 .0)) _
-          (replicate-clear (c .before .before .before .before .before .before .before .before .before .before .before .before .before .before .args .counts .now) (length (c .before .before .before .before .before .before .before .before .before .before .before .before .before .before .args .row .now)) (p .1 .1)),
-    )
+clear-counts-requires : tie.Need-clear-counts-requires
+clear-counts-requires c κs =
+    let a = c .before .before .before .before .before .before .before .before .before .before .pre in
+    omega (arith, ap length (c .before .before .before .classes-by-row .ensures .others 0 (omega arith) (omega arith)), a .classes .row-long, a .classes .few)
+
+count-classes-requires : tie.Need-count-classes-requires
+count-classes-requires c κs =
+    let a = c .before .before .before .before .before .before .before .before .before .before .before .before .before .before .pre in
+    let p = c .before .before .before .before .before .before .before .classes-by-row .ensures in
+    let q = c .before .before .before .clear-counts .ensures in
+    ((few-ranks (a .held), counting-named (a .held) (a .classes) p q, counting-clear (a .held) (a .classes) p q), counting-below (a .held) (a .classes) p q (c .before .before .before .before .before .before .before .before .before .if3 .left))
 
 any-shared-requires : tie.Need-any-shared-requires
 any-shared-requires c κs =
-    let p = c .before .before .before .before .before .before .before .before .before .before .before .before .before .before .before .before .before .before .before .pre in
-    let a = p .0 in
-    (few-ranks (a .held), named-in (a .held) _ (omega (arith, c .before .before .before .before .before .before .before .before .kinds .given, p .1 .0, a .classes .row-long)))
+    let a = c .before .before .before .before .before .before .before .before .before .before .before .before .before .before .before .before .before .before .pre in
+    let p = c .before .before .before .before .before .before .before .before .before .before .before .classes-by-row .ensures in
+    let q = c .before .before .before .before .before .before .before .clear-counts .ensures in
+    (few-ranks (a .held), counted-named (a .held) (a .classes) p q (c .before .before .before .count-classes .ensures))
 
 same-length : tie.Need-same-length
 same-length c = search needs
 
-same-length-2 : tie.Need-same-length-2
-same-length-2 c = search needs
-
 returns-4 : tie.Need-returns-4
 returns-4 c =
-    let p = c .before .before .before .before .before .before .before .before .before .before .before .before .before .before .before .before .before .before .before .before .pre in
-    λ R bs h k. shared-is h k _ (c .before .before .before .before .before .before .before .before .before .before .scatter .ensures) _ _ (c .before .before .before .before .before .before .before .before .before .before .before .before .before .before .before .before .before .before .before .before .args .multi) _ _ (replicate-clear (c .before .before .before .before .before .before .before .before .before .before .before .before .before .before .before .before .before .before .before .before .args .counts .now) (length (c .before .before .before .before .before .before .before .before .before .before .before .before .before .before .before .before .before .before .before .before .args .row .now)) (p .1 .1)) (c .before .before .before .before .before .before .before .before .before .before .before .before .before .before .if1 .left) (omega (arith, c .before .before .before .before .before .before .before .before .before .before .before .before .before .if2 .left)) (c .before .before .before .before .before .count-kinds .ensures) refl (c .any-shared .ensures)
+    let p = c .before .before .before .before .before .before .before .before .before .before .before .before .classes-by-row .ensures in
+    let q = c .before .before .before .before .before .before .before .before .clear-counts .ensures in
+    λ R bs h k. shared-found h k p q (c .before .before .before .before .count-classes .ensures) (c .before .before .before .before .before .before .before .before .before .before .before .before .before .before .before .before .before .before .before .args .multi) _ _ (c .before .before .before .before .before .before .before .before .before .before .before .before .before .before .before .before .if1 .left) (omega (arith, c .before .before .before .before .before .before .before .before .before .before .before .before .before .before .before .if2 .left)) refl (c .any-shared .ensures)
 
 pub is-shared-spec : {M : Type 1} → statement M
 is-shared-spec =
@@ -58,9 +59,9 @@ is-shared-spec =
     returns
     returns-2
     returns-3
-    scatter-requires
-    count-kinds-requires
+    classes-by-row-requires
+    clear-counts-requires
+    count-classes-requires
     any-shared-requires
     same-length
-    same-length-2
     returns-4)

@@ -3,15 +3,9 @@ use mathlib.Core.Path.{ap, _∙_}
 use lib.ListN.{getD}
 use Rattle.table.specs.TableLayer.{childColumn}
 use borrow.Author.Needs.{needs}
-use native.Mathlib.Omega.{arith}
-use Prim.Native.Nat.{ℕ, _≤_, _<_, _-_, _+_, _*_}
-use lib.ListN.{length}
+use Prim.Native.Nat.{ℕ, _-_}
 use Rattle.passes.proofs.class_at.Statement.{statement}
 use Rattle.passes.proofs.class_at.Tie as tie
-use Rattle.passes.proofs.class_at.Reads as reads
-use Rattle.passes.proofs.class_at.Lts as lts
-use Rattle.passes.proofs.row_at.Reads as row-at-reads
-use Rattle.table.proofs.child.Reads as child-reads
 
 -- src/lib.rt:113:9
 row-at-requires : tie.Need-row-at-requires

@@ -1,4 +1,4 @@
-use mathlib.Core.Path.{_≡_, refl, sym, ap, subst, _∙_}
+use mathlib.Core.Path.{_≡_, refl, ap, _∙_}
 use mathlib.Core.Logic.{_≢_}
 use mathlib.Core.List.{List}
 use lib.ListN.{getD}
@@ -9,16 +9,10 @@ use Rattle.table.specs.TableLaws.{column-length}
 use Rattle.passes.proofs.Laws.{scatter-stored}
 use borrow.Author.Needs.{needs}
 use native.Mathlib.Omega.{arith}
-use Prim.Native.Nat.{ℕ, _≤_, _<_, _-_, _+_, _*_}
+use Prim.Native.Nat.{ℕ, _≤_, _<_, _-_}
 use lib.ListN.{length}
 use Rattle.passes.proofs.classes_by_row.Statement.{statement}
 use Rattle.passes.proofs.classes_by_row.Tie as tie
-use Rattle.passes.proofs.classes_by_row.Reads as reads
-use Rattle.passes.proofs.classes_by_row.Lts as lts
-use Rattle.table.proofs.class.Reads as class-reads
-use Rattle.table.proofs.row.Reads as row-reads
-use Rattle.table.proofs.rows.Reads as rows-reads
-use Rattle.table.proofs.set_child.Reads as set-child-reads
 
 abbrev Inv-loop : tie.InvT-loop
 Inv-loop table₀ p₀ table p = (p ≤ length table₀ / 8) × (length table ≡ length table₀) × ((j : ℕ) → j < 8 → j ≢ 3 → column j table ≡ column j table₀) × ((q : ℕ) → q < p → getD (childColumn table) (getD (rowColumn table₀) q 0 - 1) 0 ≡ getD (classColumn table₀) q 0)

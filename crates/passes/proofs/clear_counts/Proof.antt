@@ -1,20 +1,14 @@
-use mathlib.Core.Path.{_≡_, refl, sym, ap, _∙_}
-use lib.ListN.{replicate}
+use mathlib.Core.Path.{refl, _∙_}
 use Prim.Native.Nat.{_/_}
-use Rattle.lists.specs.Members.{numbers}
 use Rattle.table.specs.TableLaws.{column-length}
 use Rattle.table.specs.FillLaws.{Filled, filled-start, filled-step, filled-end}
 use Rattle.passes.proofs.Laws.{zeros-are}
 use borrow.Author.Needs.{needs}
 use native.Mathlib.Omega.{arith}
-use Prim.Native.Nat.{ℕ, _≤_, _<_, _-_, _+_, _*_}
+use Prim.Native.Nat.{_≤_, _<_, _-_}
 use lib.ListN.{length}
 use Rattle.passes.proofs.clear_counts.Statement.{statement}
 use Rattle.passes.proofs.clear_counts.Tie as tie
-use Rattle.passes.proofs.clear_counts.Reads as reads
-use Rattle.passes.proofs.clear_counts.Lts as lts
-use Rattle.table.proofs.rows.Reads as rows-reads
-use Rattle.table.proofs.set_next.Reads as set-next-reads
 
 abbrev Inv-loop : tie.InvT-loop
 Inv-loop table₀ c₀ table c = Filled 4 (λ p. 0) table₀ table c × (c ≤ length table₀ / 8)

@@ -10,15 +10,10 @@ use Rattle.passes.specs.PassesLayer.{classAt, classesTo, classCounts}
 use Rattle.passes.proofs.Laws.{counts-none, counts-at, classes-to-none, classes-to-length, counts-turn, class-below}
 use borrow.Author.Needs.{needs}
 use native.Mathlib.Omega.{arith}
-use Prim.Native.Nat.{ℕ, _≤_, _<_, _-_, _+_, _*_}
+use Prim.Native.Nat.{ℕ, _≤_, _<_, _-_, _+_}
 use lib.ListN.{length}
 use Rattle.passes.proofs.count_classes.Statement.{statement}
 use Rattle.passes.proofs.count_classes.Tie as tie
-use Rattle.passes.proofs.count_classes.Reads as reads
-use Rattle.passes.proofs.count_classes.Lts as lts
-use Rattle.passes.proofs.class_at.Reads as class-at-reads
-use Rattle.table.proofs.next.Reads as next-reads
-use Rattle.table.proofs.set_next.Reads as set-next-reads
 
 abbrev Inv-loop : tie.InvT-loop
 Inv-loop index n table₀ k₀ table k = (1 ≤ k) × (k ≤ n + 1) × (length table ≡ length table₀) × ((j : ℕ) → j < 8 → j ≢ 4 → column j table ≡ column j table₀) × (nextColumn table ≡ classCounts (classesTo index (childColumn table₀) (k - 1)) (length (nextColumn table₀)))

@@ -20,19 +20,20 @@ use Rattle.paths.specs.Rows.{row as boardRow, num, RowOf}
 use Rattle.paths.specs.Nodes.{sorted}
 use Rattle.paths.specs.Refusals.{refusal10, refusal11}
 use Rattle.request.specs.declared.Built.{Built}
+use Rattle.table.specs.TableLayer.{rowColumn, classColumn}
 use Rattle.walk.specs.declared.Met.{Met}
 
 -- the bodies bs of nodes over the rows R stand in the index from word 8 on, over what it held before
-pub record Written (R : List Row) (bs : List Body) (before index : List ℕ) (met : Met) : Type 0 where
-  pub count-is : met .count ≡ length bs
-  pub check-is : met .check ≡ checked 0 (flat bs)
+pub record NodesWritten (R : List Row) (bs : List Body) (before index : List ℕ) (progress : Met) : Type 0 where
+  pub count-is : progress .count ≡ length bs
+  pub check-is : progress .check ≡ checked 0 (flat bs)
   pub few : length bs ≤ 65535
   pub room : 8 + 6 * length bs ≤ length before
   pub written : index ≡ sets before 8 (flat bs)
   pub row-of : (b : Body) → b ∈ bs → RowOf R (b .row)
   pub numeral-of : (b : Body) → b ∈ bs → b .numeral ≡ num R (b .row)
 
--- the row numbers of R in sibling order, and a class for each place: equal for equal numerals only
+-- the row numbers of R in sibling order, and a class for each position: equal for equal numerals only
 pub record Classes (R : List Row) (row class : List ℕ) : Type 0 where
   pub row-is : row ≡ sorted R
   pub row-long : length row ≡ length R
@@ -41,29 +42,29 @@ pub record Classes (R : List Row) (row class : List ℕ) : Type 0 where
   pub below : (p : ℕ) → p < length row → getD class p 0 < length row
   pub same : (p q : ℕ) → p < length row → q < length row → (getD class p 0 ≡ getD class q 0) ↔ (num R (getD row p 0) ≡ num R (getD row q 0))
 
--- some rows have them
-pub record AnyNodes (row class : List ℕ) (minutes : List ℤ) (index : List ℕ) (met : Met) : Type 0 where
+-- the nodes of some rows are written, and the rows and classes stand in a table
+pub record AnyNodesWritten (t : List ℕ) (minutes : List ℤ) (index : List ℕ) (progress : Met) : Type 0 where
   pub R : List Row
   pub bs : List Body
   pub before : List ℕ
-  pub written : Written R bs before index met
-  pub classes : Classes R row class
+  pub written : NodesWritten R bs before index progress
+  pub classes : Classes R (rowColumn t) (classColumn t)
   pub minutes-are : minutes ≡ map (λ (r : Row). r .minutes) R
 
 -- the index begins with the image of n bodies of nodes over the rows R
-pub record Held (R : List Row) (bs : List Body) (index : List ℕ) (n : ℕ) : Type 0 where
+pub record NodesHeld (R : List Row) (bs : List Body) (index : List ℕ) (n : ℕ) : Type 0 where
   pub count-is : n ≡ length bs
   pub few : length bs ≤ 65535
   pub holds : HoldsImage index bs
   pub row-of : (b : Body) → b ∈ bs → RowOf R (b .row)
   pub numeral-of : (b : Body) → b ∈ bs → b .numeral ≡ num R (b .row)
 
--- that of some rows
-pub record AnyHeld (row class index : List ℕ) (n : ℕ) : Type 0 where
+-- that of some rows, which stand with their classes in a table
+pub record AnyNodesHeld (t index : List ℕ) (n : ℕ) : Type 0 where
   pub R : List Row
   pub bs : List Body
-  pub held : Held R bs index n
-  pub classes : Classes R row class
+  pub held : NodesHeld R bs index n
+  pub classes : Classes R (rowColumn t) (classColumn t)
 
 -- "the number of rows that end no node"
 abbrev pub leftOver : List Row → List Body → ℕ
