@@ -31,7 +31,7 @@ use Rattle.table.specs.TableLayer.{rowColumn, classColumn, childColumn, nextCol
 use Rattle.table.specs.TableLaws.{column-length}
 use Rattle.request.specs.declared.Built.{Built}
 use Rattle.request.specs.Build.{refusedBy}
-use Rattle.walk.specs.declared.Met.{Met}
+use Rattle.walk.specs.declared.Progress.{Progress}
 use Rattle.finish.specs.FinishLayer.{NodesWritten, Classes, NodesHeld, leftOver, lateRefusal, lateAnswer, bodyMinutes, Finished}
 
 -- ---- rank by rank and body by body
@@ -281,7 +281,7 @@ multi-above multi bs e = not-asked multi bs (λ o. absurd (omega arith)) (λ o. 
 
 -- ---- the bodies that a walk has written, and the table of contents over them
 
-module _ {R : List Row} {bs : List Body} {before index : List ℕ} {progress : Met} (w : NodesWritten R bs before index progress) where
+module _ {R : List Row} {bs : List Body} {before index : List ℕ} {progress : Progress} (w : NodesWritten R bs before index progress) where
   pub front-held : (index′ : List ℕ) → index′ ≡ cond (ltb (length index) 8) index (sets index 0 (contentsWords (progress .count) (progress .check))) → index′ ≡ front (imageWords bs) before
   front-held index′ e =
       let l : 8 ≤ length index = omega (arith, ap length (w .written) ∙ length-sets before 8 (flat bs), w .room) in
@@ -311,7 +311,7 @@ late R choice bs before index′ totals totals′ r k z e q =
     record { answer = q ∙ sym a; index-is = λ o. absurd (omega arith); totals-are = λ o. absurd (omega arith) }
 
 -- the table of contents is written, and s is the index then
-module _ (R : List Row) (choice : Choice) (bs : List Body) (before index : List ℕ) (progress : Met) (w : NodesWritten R bs before index progress) (s : List ℕ)
+module _ (R : List Row) (choice : Choice) (bs : List Body) (before index : List ℕ) (progress : Progress) (w : NodesWritten R bs before index progress) (s : List ℕ)
     (e : s ≡ cond (ltb (length index) 8) index (sets index 0 (contentsWords (progress .count) (progress .check)))) (totals totals′ : List ℤ) (index′ : List ℕ) (r : Built)
     (closed : Bool) (closed-is : closed ≡ (eqb (choice .cycle) 1 && anyClosing s (progress .count))) where
   closes : closed ≡ refusal10 (choice .cycle) bs

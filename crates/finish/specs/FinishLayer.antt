@@ -21,10 +21,10 @@ use Rattle.paths.specs.Nodes.{sorted}
 use Rattle.paths.specs.Refusals.{refusal10, refusal11}
 use Rattle.request.specs.declared.Built.{Built}
 use Rattle.table.specs.TableLayer.{rowColumn, classColumn}
-use Rattle.walk.specs.declared.Met.{Met}
+use Rattle.walk.specs.declared.Progress.{Progress}
 
 -- the bodies bs of nodes over the rows R stand in the index from word 8 on, over what it held before
-pub record NodesWritten (R : List Row) (bs : List Body) (before index : List ℕ) (progress : Met) : Type 0 where
+pub record NodesWritten (R : List Row) (bs : List Body) (before index : List ℕ) (progress : Progress) : Type 0 where
   pub count-is : progress .count ≡ length bs
   pub check-is : progress .check ≡ checked 0 (flat bs)
   pub few : length bs ≤ 65535
@@ -43,7 +43,7 @@ pub record Classes (R : List Row) (row class : List ℕ) : Type 0 where
   pub same : (p q : ℕ) → p < length row → q < length row → (getD class p 0 ≡ getD class q 0) ↔ (num R (getD row p 0) ≡ num R (getD row q 0))
 
 -- the nodes of some rows are written, and the rows and classes stand in a table
-pub record AnyNodesWritten (t : List ℕ) (minutes : List ℤ) (index : List ℕ) (progress : Met) : Type 0 where
+pub record AnyNodesWritten (t : List ℕ) (minutes : List ℤ) (index : List ℕ) (progress : Progress) : Type 0 where
   pub R : List Row
   pub bs : List Body
   pub before : List ℕ

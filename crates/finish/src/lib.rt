@@ -13,7 +13,7 @@ ghost use Rattle.table.specs.TableLayer.{rowColumn, classColumn};
 ghost use Rattle.finish.specs.FinishLayer.{NodesWritten, Classes, AnyNodesWritten, NodesHeld, AnyNodesHeld, Finished};
 use options::Choice;
 use request::Built;
-use walk::Met;
+use walk::Progress;
 
 // Whether a node closes and that is refused.
 fn is_closed(cycle: u32, index: &[u32], n: usize) -> bool
@@ -59,7 +59,7 @@ fn is_left(orphan: u32, left: u32) -> bool
 // Finishes a build whose bodies are written. Where it is refused, the index and the totals may hold anything.
 pub fn finish(
     choice: Choice,
-    progress: Met,
+    progress: Progress,
     minutes: &[i32],
     table: &mut [u32],
     reached: &mut [u32],
