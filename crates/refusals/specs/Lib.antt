@@ -1,2 +1,2 @@
-pub mod Tests
-pub mod TestLaws
+pub mod TestsLayer
+pub mod TestsLaws

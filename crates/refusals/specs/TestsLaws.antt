@@ -3,16 +3,29 @@ use mathlib.Core.Path.{_≡_, refl, sym, ap, ap₂, _∙_}
 use mathlib.Core.Logic.{_⊎_, inl, inr}
 use mathlib.Core.Bool.{Bool, true, false, cond, not, _&&_, _||_}
 use mathlib.Core.List.{List}
-use Prim.Native.Nat.{ℕ, _+_, _-_, _*_, _≤_, _<_}
+use Prim.Native.Nat.{ℕ, suc, _+_, _-_, _*_, _≤_, _<_}
 use native.Mathlib.Omega.{arith}
 use borrow.Author.Tests.{eq-eqb, ne-eqb, lt-ltb, le-ltb, lt-leb, le-leb, ltb-true, ltb-false}
-use lib.Dec.{leb, ltb}
-use lib.ListN.{length}
+use lib.Dec.{eqb, ltb}
+use lib.ListN.{length, getD}
+use Rattle.lists.specs.Members.{numbers, any}
 use Rattle.options.specs.declared.Depth.{Depth}
 use Rattle.options.specs.declared.Depth.the-variants.{None, Limit}
-use Rattle.orphans.specs.Flags.{lastFlag, topFlags}
 use Rattle.paths.specs.Refusals.{given, refusal7, refusal9}
-use Rattle.refusals.specs.Tests.{capacityOf, lacksStart, earlyRefusal}
+use Rattle.table.specs.TableLayer.{rowColumn, parentPositionColumn, flagColumn}
+use Rattle.refusals.specs.TestsLayer.{capacityOf, startAt, parentlessAt, lacksStart, earlyRefusal}
+
+and-false : (b : Bool) → (b && false) ≡ false
+and-false true = refl
+and-false false = refl
+
+or-true : (b : Bool) → (b || true) ≡ true
+or-true true = refl
+or-true false = refl
+
+or-false : (b : Bool) → (b || false) ≡ b
+or-false true = refl
+or-false false = refl
 
 -- ---- 7: a depth is given
 
@@ -56,34 +69,74 @@ short-totals n words totals h = go (ltb 65535 n) (ltb words (8 + 6 * n))
     go false true = refl
     go false false = lt-ltb totals (n + 1) (omega arith)
 
--- ---- the branches of the test of refusal 8
+-- ---- the test of refusal 8, position by position
 
-module _ (orphan : ℕ) (flags row reached parent owner : List ℕ) where
-  pub lacks-not-adopt : (orphan ≡ 2 → ⊥) → false ≡ lacksStart orphan flags row reached parent owner
-  unfolding lacksStart
-  lacks-not-adopt n = sym (ap (λ (t : Bool). t && (leb (length row) (lastFlag flags) && ltb (lastFlag (topFlags row reached parent owner)) (length row))) (ne-eqb orphan 2 n))
+module _ (f : ℕ → Bool) (n p : ℕ) where
+  any-here : p < n → any f (numbers p (n - p)) ≡ (f p || any f (numbers (p + 1) (n - (p + 1))))
+  any-here h =
+      let e : n - p ≡ suc (n - (p + 1)) = omega arith in
+      let s : suc p ≡ p + 1 = omega arith in
+      ap (λ (j : ℕ). any f (numbers p j)) e ∙ ap (λ (j : ℕ). f p || any f (numbers j (n - (p + 1)))) s
 
-  pub lacks-not-bare : (p : ℕ) → orphan ≡ 2 → p ≡ lastFlag flags → p < length row → false ≡ lacksStart orphan flags row reached parent owner
-  unfolding lacksStart
-  lacks-not-bare p two e h =
-      sym (ap (λ (t : Bool). t && (leb (length row) (lastFlag flags) && ltb (lastFlag (topFlags row reached parent owner)) (length row))) (eq-eqb orphan 2 two)
-      ∙ ap (λ (t : Bool). t && ltb (lastFlag (topFlags row reached parent owner)) (length row)) (lt-leb (length row) (lastFlag flags) (omega arith)))
+  any-past : n ≤ p → any f (numbers p (n - p)) ≡ false
+  any-past h = let e : n - p ≡ 0 = omega arith in ap (λ (j : ℕ). any f (numbers p j)) e
 
-  pub lacks-tops : (p q : ℕ) (tops : List ℕ) → orphan ≡ 2 → p ≡ lastFlag flags → length row ≤ p → tops ≡ topFlags row reached parent owner → q ≡ lastFlag tops → ltb q (length row) ≡ lacksStart orphan flags row reached parent owner
+-- no row before position p is a start row, and `found` tells whether one of them has no parent
+pub record NoStartTo (t : List ℕ) (p : ℕ) (found : Bool) : Type 0 where
+  pub starts-after : any (startAt t) (numbers 0 (length (rowColumn t))) ≡ any (startAt t) (numbers p (length (rowColumn t) - p))
+  pub parentless : any (parentlessAt t) (numbers 0 (length (rowColumn t))) ≡ (found || any (parentlessAt t) (numbers p (length (rowColumn t) - p)))
+
+module _ (orphan : ℕ) (t : List ℕ) where
+  pub lacks-not-adopt : (orphan ≡ 2 → ⊥) → false ≡ lacksStart orphan t
   unfolding lacksStart
-  lacks-tops p q tops two e h t f =
-      ap (λ (k : ℕ). ltb k (length row)) (f ∙ ap lastFlag t)
-      ∙ sym (ap (λ (t : Bool). t && (leb (length row) (lastFlag flags) && ltb (lastFlag (topFlags row reached parent owner)) (length row))) (eq-eqb orphan 2 two)
-      ∙ ap (λ (t : Bool). t && ltb (lastFlag (topFlags row reached parent owner)) (length row)) (le-leb (length row) (lastFlag flags) (omega arith)))
+  lacks-not-adopt n = sym (ap (λ (b : Bool). b && (not (any (startAt t) (numbers 0 (length (rowColumn t)))) && any (parentlessAt t) (numbers 0 (length (rowColumn t))))) (ne-eqb orphan 2 n))
+
+  pub no-start-none : NoStartTo t 0 false
+  no-start-none =
+      let e : length (rowColumn t) ≡ length (rowColumn t) - 0 = omega arith in
+      record { starts-after = ap (λ (j : ℕ). any (startAt t) (numbers 0 j)) e; parentless = ap (λ (j : ℕ). any (parentlessAt t) (numbers 0 j)) e }
+
+  module _ {p : ℕ} {found : Bool} (h : NoStartTo t p found) where
+    pub lacks-not-bare : (flag : ℕ) → p < length (rowColumn t) → flag ≡ getD (flagColumn t) p 0 → flag ≡ 1 → false ≡ lacksStart orphan t
+    unfolding lacksStart
+    lacks-not-bare flag lt e one =
+        let some : any (startAt t) (numbers 0 (length (rowColumn t))) ≡ true = h .starts-after ∙ any-here (startAt t) (length (rowColumn t)) p lt ∙ ap (λ (b : Bool). b || any (startAt t) (numbers (p + 1) (length (rowColumn t) - (p + 1)))) (eq-eqb (getD (flagColumn t) p 0) 1 (sym e ∙ one)) in
+        sym (ap (λ (b : Bool). eqb orphan 2 && (not b && any (parentlessAt t) (numbers 0 (length (rowColumn t))))) some ∙ and-false (eqb orphan 2))
+
+    module _ (lt : p < length (rowColumn t)) (flag : ℕ) (flag-is : flag ≡ getD (flagColumn t) p 0) (other : flag ≡ 1 → ⊥) (position : ℕ) (position-is : position ≡ getD (parentPositionColumn t) p 0) where
+      starts-next : any (startAt t) (numbers 0 (length (rowColumn t))) ≡ any (startAt t) (numbers (p + 1) (length (rowColumn t) - (p + 1)))
+      starts-next =
+          h .starts-after
+          ∙ any-here (startAt t) (length (rowColumn t)) p lt
+          ∙ ap (λ (b : Bool). b || any (startAt t) (numbers (p + 1) (length (rowColumn t) - (p + 1)))) (ne-eqb (getD (flagColumn t) p 0) 1 (λ z. other (flag-is ∙ z)))
+
+      pub no-start-found : length (rowColumn t) ≤ position → NoStartTo t (p + 1) true
+      no-start-found le = record {
+        starts-after = starts-next;
+        parentless =
+            h .parentless
+            ∙ ap (λ (b : Bool). found || b) (any-here (parentlessAt t) (length (rowColumn t)) p lt ∙ ap (λ (b : Bool). b || any (parentlessAt t) (numbers (p + 1) (length (rowColumn t) - (p + 1)))) (le-leb (length (rowColumn t)) (getD (parentPositionColumn t) p 0) (omega arith)))
+            ∙ or-true found;
+      }
+
+      pub no-start-next : position < length (rowColumn t) → NoStartTo t (p + 1) found
+      no-start-next gt = record {
+        starts-after = starts-next;
+        parentless =
+            h .parentless
+            ∙ ap (λ (b : Bool). found || b) (any-here (parentlessAt t) (length (rowColumn t)) p lt ∙ ap (λ (b : Bool). b || any (parentlessAt t) (numbers (p + 1) (length (rowColumn t) - (p + 1)))) (lt-leb (length (rowColumn t)) (getD (parentPositionColumn t) p 0) (omega arith)));
+      }
+
+    pub lacks-found : orphan ≡ 2 → length (rowColumn t) ≤ p → found ≡ lacksStart orphan t
+    unfolding lacksStart
+    lacks-found two past =
+        sym (ap (λ (b : Bool). b && (not (any (startAt t) (numbers 0 (length (rowColumn t)))) && any (parentlessAt t) (numbers 0 (length (rowColumn t))))) (eq-eqb orphan 2 two)
+        ∙ ap₂ (λ (a b : Bool). not a && b) (h .starts-after ∙ any-past (startAt t) (length (rowColumn t)) p past) (h .parentless ∙ ap (λ (b : Bool). found || b) (any-past (parentlessAt t) (length (rowColumn t)) p past) ∙ or-false found))
 
 -- ---- the branches of the test of refusal 7
 
 pub depth-free : (orphan : ℕ) (depth : Depth) → orphan ≡ 0 → false ≡ refusal7 orphan depth
-depth-free orphan depth e = sym (ap (λ (t : Bool). given depth && not t) (eq-eqb orphan 0 e) ∙ and-no (given depth))
-  where
-    and-no : (x : Bool) → (x && false) ≡ false
-    and-no true = refl
-    and-no false = refl
+depth-free orphan depth e = sym (ap (λ (t : Bool). given depth && not t) (eq-eqb orphan 0 e) ∙ and-false (given depth))
 
 pub depth-asked : (orphan : ℕ) (depth : Depth) (t : Bool) → (orphan ≡ 0 → ⊥) → t ≡ given depth → t ≡ refusal7 orphan depth
 depth-asked orphan depth t n e = e ∙ sym (ap (λ (s : Bool). given depth && not s) (ne-eqb orphan 0 n) ∙ and-yes (given depth))

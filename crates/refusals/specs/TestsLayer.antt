@@ -1,19 +1,28 @@
 -- What the tests before a walk answer. Assumes nothing: these are definitions.
-use mathlib.Core.Bool.{Bool, cond, _&&_}
+use mathlib.Core.Bool.{Bool, cond, not, _&&_}
 use mathlib.Core.List.{List}
 use Prim.Native.Nat.{ℕ, _-_, _/_, min}
 use lib.Dec.{eqb, leb, ltb}
-use lib.ListN.{length}
-use Rattle.orphans.specs.Flags.{lastFlag, topFlags}
+use lib.ListN.{length, getD}
+use Rattle.lists.specs.Members.{numbers, any}
+use Rattle.table.specs.TableLayer.{rowColumn, parentPositionColumn, flagColumn}
 
 -- how many nodes the slices hold, at most 65,535; the index has 8 words or more, the totals one or more
 unfoldable pub capacityOf : ℕ → ℕ → ℕ
 capacityOf words totals = min 65535 (min ((words - 8) / 6) (totals - 1))
 
--- adopt, no start row flagged, and a row whose parent is 0 or no row's numeral
-unfoldable pub lacksStart : ℕ → List ℕ → List ℕ → List ℕ → List ℕ → List ℕ → Bool
-lacksStart orphan flags row reached parent owner =
-    eqb orphan 2 && (leb (length row) (lastFlag flags) && ltb (lastFlag (topFlags row reached parent owner)) (length row))
+-- the row at a position is flagged as a start row
+abbrev pub startAt : List ℕ → ℕ → Bool
+startAt t p = eqb (getD (flagColumn t) p 0) 1
+
+-- the parent of the row at a position is no row's numeral
+abbrev pub parentlessAt : List ℕ → ℕ → Bool
+parentlessAt t p = leb (length (rowColumn t)) (getD (parentPositionColumn t) p 0)
+
+-- adopt, no start row, and a row without a parent
+unfoldable pub lacksStart : ℕ → List ℕ → Bool
+lacksStart orphan t =
+    eqb orphan 2 && (not (any (startAt t) (numbers 0 (length (rowColumn t)))) && any (parentlessAt t) (numbers 0 (length (rowColumn t))))
 
 -- refusal 8, refusal 9 where a slice has no room for an index or totals of no node, or 0
 unfoldable pub earlyRefusal : Bool → ℕ → ℕ → ℕ

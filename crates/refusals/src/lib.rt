@@ -3,7 +3,8 @@ ghost use mathlib.Core.Path.{_≡_};
 ghost use Prim.Native.Nat.{_≤_, min};
 ghost use lib.ListN.{length};
 ghost use Rattle.paths.specs.Refusals.{given, refusal7};
-ghost use Rattle.refusals.specs.Tests.{capacityOf, lacksStart, earlyRefusal};
+ghost use Rattle.table.specs.TableLayer.{rowColumn};
+ghost use Rattle.refusals.specs.TestsLayer.{capacityOf, lacksStart, earlyRefusal};
 use options::Depth;
 
 fn smaller(x: usize, y: usize) -> usize
@@ -40,45 +41,36 @@ pub fn is_depth_refused(orphan: u32, depth: Depth) -> bool
     is_given(depth)
 }
 
-// Whether adopt meets a top orphan and there is no start row.
-fn lacks_start(
-    orphan: u32,
-    flags: &[u32],
-    row: &[u32],
-    reached: &[u32],
-    parent: &[u32],
-    owner: &[u32],
-    tops: &mut [u32],
-) -> bool
-    requires { ⌜ length (now row) ≡ length (now tops) ⌝ }
-    ensures { λ r. ⌜ r ≡ lacksStart orphan (now (flags .entry)) (now (row .entry)) (now (reached .entry)) (now (parent .entry)) (now (owner .entry)) ⌝ }
+// Whether adopt meets a top orphan and there is no start row: without one every row is outside the regular paths.
+fn lacks_start(orphan: u32, table: &[u32]) -> bool
+    requires { ⌜ length (rowColumn (now table)) ≤ 1024 ⌝ }
+    ensures { λ r. ⌜ r ≡ lacksStart orphan (now (table .entry)) ⌝ }
 {
     if orphan != 2 {
         return false;
     }
-    if orphans::last_flag(flags) < row.len() {
-        return false;
+    let n = table::rows(table);
+    let mut found = false;
+    let mut p = 0;
+    while (p as usize) < n {
+        if table::flag(table, p) == 1 {
+            return false;
+        }
+        let position = table::parent_position(table, p) as usize;
+        p += 1;
+        if n <= position {
+            found = true;
+        }
     }
-    orphans::flag_tops(row, reached, parent, owner, tops);
-    orphans::last_flag(tops) < row.len()
+    found
 }
 
 // Refusal 8, refusal 9 where a slice has no room for an index or totals of no node, or 0.
-pub fn early_refusal(
-    orphan: u32,
-    flags: &[u32],
-    row: &[u32],
-    reached: &[u32],
-    parent: &[u32],
-    owner: &[u32],
-    tops: &mut [u32],
-    words: usize,
-    totals: usize,
-) -> u32
-    requires { ⌜ length (now row) ≡ length (now tops) ⌝ }
-    ensures { λ r. ⌜ r ≡ earlyRefusal (lacksStart orphan (now (flags .entry)) (now (row .entry)) (now (reached .entry)) (now (parent .entry)) (now (owner .entry))) words totals ⌝ }
+pub fn early_refusal(orphan: u32, table: &[u32], words: usize, totals: usize) -> u32
+    requires { ⌜ length (rowColumn (now table)) ≤ 1024 ⌝ }
+    ensures { λ r. ⌜ r ≡ earlyRefusal (lacksStart orphan (now (table .entry))) words totals ⌝ }
 {
-    if lacks_start(orphan, flags, row, reached, parent, owner, tops) {
+    if lacks_start(orphan, table) {
         return 8;
     }
     if words < 8 {

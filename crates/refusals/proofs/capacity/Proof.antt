@@ -1,5 +1,5 @@
 use mathlib.Core.Path.{ap, _∙_}
-use Rattle.refusals.specs.Tests.{capacityOf}
+use Rattle.refusals.specs.TestsLayer.{capacityOf}
 use borrow.Author.Needs.{needs}
 use Prim.Native.Nat.{ℕ, min, _-_}
 use Rattle.refusals.proofs.capacity.Statement.{statement}

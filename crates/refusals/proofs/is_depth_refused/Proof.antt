@@ -1,4 +1,4 @@
-use Rattle.refusals.specs.TestLaws.{depth-free, depth-asked}
+use Rattle.refusals.specs.TestsLaws.{depth-free, depth-asked}
 use borrow.Author.Needs.{needs}
 use Prim.Native.Nat.{_-_}
 use Rattle.refusals.proofs.is_depth_refused.Statement.{statement}

@@ -1,41 +1,87 @@
-use Rattle.refusals.specs.TestLaws.{lacks-not-adopt, lacks-not-bare, lacks-tops}
+use Rattle.refusals.specs.TestsLaws.{NoStartTo, lacks-not-adopt, no-start-none, lacks-not-bare, no-start-found, no-start-next, lacks-found}
 use borrow.Author.Needs.{needs}
-use Prim.Native.Nat.{_-_}
+use native.Mathlib.Omega.{arith}
+use Prim.Native.Nat.{_≤_, _-_}
 use Rattle.refusals.proofs.lacks_start.Statement.{statement}
 use Rattle.refusals.proofs.lacks_start.Tie as tie
 
-returns : tie.Need-returns
+abbrev Inv-loop : tie.InvT-loop
+Inv-loop orphan table n found₀ p₀ found p = NoStartTo table p found × (p ≤ n)
+
+abbrev μ-loop : tie.MeasureT-loop
+μ-loop orphan table n found₀ p₀ found p = n - p
+
+returns : tie.Need-returns Inv-loop μ-loop
 returns c =
-    lacks-not-adopt _ _ _ _ _ _ (c .if1 .taken)
+    lacks-not-adopt _ _ (c .if1 .taken)
 
-last-flag-requires : tie.Need-last-flag-requires
-last-flag-requires c κs = search needs
+rows-requires : tie.Need-rows-requires Inv-loop μ-loop
+rows-requires c κs = search needs
 
-returns-2 : tie.Need-returns-2
+loop-holds : tie.Need-loop-holds Inv-loop μ-loop
+loop-holds c =
+    (no-start-none (c .before .before .before .args .orphan) (c .before .before .before .args .table .now), omega arith)
+
+cast-loop : tie.Need-cast-loop Inv-loop μ-loop
+cast-loop c =
+    omega (arith, c .loop .inv .1, c .before .rows .ensures 0, c .before .before .before .before .pre)
+
+flag-requires : tie.Need-flag-requires Inv-loop μ-loop
+flag-requires c κs = search needs
+
+returns-2 : tie.Need-returns-2 Inv-loop μ-loop
 returns-2 c =
-    lacks-not-bare _ _ _ _ _ _ _ (c .before .before .if1 .left) (c .before .last-flag .ensures) (c .if2 .taken)
+    lacks-not-bare (c .before .before .before .before .before .before .before .args .orphan) _ (c .before .before .before .loop .inv .0) _ (omega (arith, c .before .before .loop-test .taken, c .before .before .before .before .rows .ensures 0)) (c .before .flag .ensures) (c .if2 .taken)
 
-flag-tops-requires : tie.Need-flag-tops-requires
-flag-tops-requires c κs = search needs
+parent-position-requires : tie.Need-parent-position-requires Inv-loop μ-loop
+parent-position-requires c κs = search needs
 
-last-flag-requires-2 : tie.Need-last-flag-requires-2
-last-flag-requires-2 c κs = search needs
+cast-position : tie.Need-cast-position Inv-loop μ-loop
+cast-position c = search needs
 
-same-length : tie.Need-same-length
-same-length c = search needs
+add-p : tie.Need-add-p Inv-loop μ-loop
+add-p c =
+    omega (arith, c .before .before .before .before .loop .inv .1, c .before .before .before .before .before .rows .ensures 0, c .before .before .before .before .before .before .before .before .pre)
 
-returns-3 : tie.Need-returns-3
+loop-less : tie.Need-loop-less Inv-loop μ-loop
+loop-less c =
+    omega (arith, c .before .before .before .before .loop-test .taken)
+
+loop-again : tie.Need-loop-again Inv-loop μ-loop
+loop-again c =
+    let e = c .before .before .before .before .before .before .rows .ensures 0 in
+    (no-start-found (c .before .before .before .before .before .before .before .before .before .args .orphan) _ (c .before .before .before .before .before .loop .inv .0) (omega (arith, c .before .before .before .before .loop-test .taken, e)) _ (c .before .before .before .flag .ensures) (c .before .before .if2 .left) _ (c .before .parent-position .ensures) (omega (arith, c .if3 .taken, e)), omega (arith, c .before .before .before .before .loop-test .taken))
+
+loop-less-2 : tie.Need-loop-less-2 Inv-loop μ-loop
+loop-less-2 c =
+    omega (arith, c .before .before .before .before .loop-test .taken)
+
+loop-again-2 : tie.Need-loop-again-2 Inv-loop μ-loop
+loop-again-2 c =
+    let e = c .before .before .before .before .before .before .rows .ensures 0 in
+    (no-start-next (c .before .before .before .before .before .before .before .before .before .args .orphan) _ (c .before .before .before .before .before .loop .inv .0) (omega (arith, c .before .before .before .before .loop-test .taken, e)) _ (c .before .before .before .flag .ensures) (c .before .before .if2 .left) _ (c .before .parent-position .ensures) (omega (arith, c .if3 .left, e)), omega (arith, c .before .before .before .before .loop-test .taken))
+
+returns-3 : tie.Need-returns-3 Inv-loop μ-loop
 returns-3 c =
-    lacks-tops _ _ _ _ _ _ _ _ _ (c .before .before .before .before .before .before .before .before .if1 .left) (c .before .before .before .before .before .before .before .last-flag .ensures) (c .before .before .before .before .before .before .if2 .left) (c .before .before .before .before .flag-tops .ensures) (c .last-flag2 .ensures)
+    lacks-found (c .before .before .before .before .before .args .orphan) _ (c .before .loop .inv .0) (c .before .before .before .if1 .left) (omega (arith, c .loop-test .left, c .before .before .rows .ensures 0))
 
 pub lacks-start-spec : {M : Type 1} → statement M
 lacks-start-spec =
     tie.close
     (tie.spec
+    Inv-loop
+    μ-loop
     returns
-    last-flag-requires
+    rows-requires
+    loop-holds
+    cast-loop
+    flag-requires
     returns-2
-    flag-tops-requires
-    last-flag-requires-2
-    same-length
+    parent-position-requires
+    cast-position
+    add-p
+    loop-less
+    loop-again
+    loop-less-2
+    loop-again-2
     returns-3)
