@@ -24,10 +24,10 @@ use Rattle.options.specs.declared.Depth.the-variants.{None}
 use Rattle.options.specs.Options.{levelLimit}
 use Rattle.paths.specs.Forest.{next}
 use Rattle.paths.specs.Rows.{row as boardRow, num, par}
-use Rattle.paths.specs.Paths.{last, ignore, error, adopt, root}
-use Rattle.paths.specs.Nodes.{sorted, starts, regular, orphanRows, tops, nodes}
-use Rattle.paths.specs.EmitLayer.{mkBody, emit}
-use Rattle.paths.specs.Bodies.{bodies}
+use Rattle.paths.specs.Paths.{last, ignore, adopt, root}
+use Rattle.paths.specs.Nodes.{sorted, starts, regular, orphanRows, tops}
+use Rattle.paths.specs.Emit.{emit}
+use Rattle.paths.specs.Bodies.{mkBody, bodies}
 use Rattle.paths.specs.EmitLaws.{emit-nil}
 use Rattle.paths.specs.BodyWalkLaws.{bodies-ignore, bodies-error, bodies-root}
 use Rattle.paths.specs.AdoptWalkLaws.{bodies-adopt, bodies-adopt-none}

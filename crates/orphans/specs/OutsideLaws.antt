@@ -2,7 +2,7 @@
 use mathlib.Core.Path.{_≡_, refl, sym, ap, ap₂, _∙_, subst}
 use mathlib.Core.Logic.{_≢_, inl, inr}
 use mathlib.Core.Bool.{Bool, true, false, cond, _&&_}
-use mathlib.Core.List.{List, [], _∷_, map}
+use mathlib.Core.List.{List, [], map}
 use Prim.Native.Nat.{ℕ, zero, suc, _+_, _-_, _/_, _≤_, _<_}
 use native.Mathlib.Nat.{zero-add}
 use native.Mathlib.Omega.{arith}
@@ -14,7 +14,7 @@ use lib.Seq.{getD-set-same, getD-set-other, ext-getD}
 use Rattle.lists.specs.Members.{_∈_, filter, keep, filter-out, numbers, numbers-out}
 use Rattle.lists.specs.Counting.{by-place, by-place-length}
 use Rattle.links.specs.Links.{Linked, end, more}
-use Rattle.table.specs.TableLayer.{column, rowColumn, childColumn, nextColumn, classColumn, parentPositionColumn, flagColumn, Stored}
+use Rattle.table.specs.TableLayer.{rowColumn, childColumn, nextColumn, classColumn, parentPositionColumn, flagColumn, Stored}
 use Rattle.table.specs.TableLaws.{column-length}
 use Rattle.table.specs.FillLaws.{Filled, filled-at}
 use Rattle.orphans.specs.OutsideLayer.{outsideAt, topAt, topFlags, outsideUnder, lastBelow, Linkable, ChildrenCleared, ChildrenShared, LinkedFrom, OutsideLinked}

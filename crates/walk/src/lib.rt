@@ -1,6 +1,7 @@
 // The depth-first enumerator over a table of rows in sibling order, which writes the bodies of the nodes that it meets.
 ghost use mathlib.Core.Path.{_≡_};
 ghost use mathlib.Core.Logic.{_≢_};
+ghost use mathlib.Core.Bool.{true};
 ghost use Prim.Native.Nat.{_+_, _*_, _-_, _≤_, _<_};
 ghost use lib.ListN.{length, getD, set};
 ghost use Rattle.table.specs.TableLayer.{classColumn, childColumn};
@@ -199,7 +200,7 @@ fn forest(
     }
 }
 
-// The nodes below the row at p, whose rank is one more than the nodes met before.
+// The nodes below the row at p, whose rank is one more than the nodes met before, and below which rows may be listed.
 fn below(
     p: u32,
     place: Place,
@@ -211,6 +212,7 @@ fn below(
 ) -> Progress
     requires { ⌜ Walkable (rowsOf (now table)) (length (now marks)) ⌝ }
     requires { ⌜ (p < length (childColumn (now table))) × (progress .count < bounds .cap) × (bounds .cap ≤ 65535) × (8 + 6 * bounds .cap ≤ length (now index)) ⌝ }
+    requires { ⌜ opened (classColumn (now table)) (bounds .limit) p (place .level) (now marks) ≡ true ⌝ }
     ensures { λ r. ⌜ (progress .count < r .count) × BelowFrom (now (table .entry)) place bounds p progress (now (marks .entry)) (now (marks .exit)) (now (index .entry)) (now (index .exit)) r ⌝ }
 {
     let rank = progress.count + 1;
@@ -218,9 +220,6 @@ fn below(
         count: rank,
         check: progress.check,
     };
-    if !opens(p, place.level, bounds.limit, table, marks) {
-        return begun;
-    }
     let own = table::class(table, p) as usize;
     let first = table::child(table, p);
     let lower = Place {

@@ -1,11 +1,6 @@
 use borrow.Author.Needs.{needs}
 use native.Mathlib.Omega.{arith}
-use mathlib.Core.Path.{_≡_, refl, sym, ap, _∙_, subst}
-use mathlib.Core.List.{List}
-use Prim.Native.Nat.{ℕ, _≤_, _<_, _-_, _+_}
-use lib.ListN.{length}
-use Rattle.table.specs.TableLayer.{column, rowColumn, childColumn, flagColumn}
-use Rattle.table.specs.TableLaws.{column-length}
+use mathlib.Core.Path.{refl}
 use Rattle.enumerate.specs.WalkJoinLaws.{size-kept, count-grows}
 use Rattle.enumerate.proofs.adopt.Statement.{statement}
 use Rattle.enumerate.proofs.adopt.Tie as tie

@@ -1,11 +1,3 @@
-use borrow.Author.Needs.{needs}
-use native.Mathlib.Omega.{arith}
-use mathlib.Core.Path.{_≡_, refl, sym, ap, _∙_, subst}
-use mathlib.Core.List.{List}
-use Prim.Native.Nat.{ℕ, _≤_, _<_, _-_, _+_}
-use lib.ListN.{length}
-use Rattle.table.specs.TableLayer.{column, rowColumn, childColumn, flagColumn}
-use Rattle.table.specs.TableLaws.{column-length}
 use Rattle.enumerate.specs.OrphanLaws.{level-root, level-adopted}
 use Rattle.enumerate.proofs.level_under.Statement.{statement}
 use Rattle.enumerate.proofs.level_under.Tie as tie

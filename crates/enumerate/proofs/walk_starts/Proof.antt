@@ -1,14 +1,7 @@
 use borrow.Author.Needs.{needs}
 use native.Mathlib.Omega.{arith}
-use mathlib.Core.Path.{_≡_, refl, sym, ap, _∙_, subst}
-use mathlib.Core.List.{List}
-use Prim.Native.Nat.{ℕ, _≤_, _<_, _-_, _+_}
-use lib.ListN.{length}
-use Rattle.table.specs.TableLayer.{column, rowColumn, childColumn, flagColumn}
-use Rattle.table.specs.TableLaws.{column-length}
+use mathlib.Core.Path.{sym}
 use Rattle.walk.specs.WalkLaws.{walkable-kept}
-use Rattle.walk.specs.WalkLayer.{NodesWalked, flagged, rowsOf}
-use mathlib.Core.Bool.{false}
 use Rattle.enumerate.specs.WalkJoinLaws.{starts-stop, starts-both}
 use Rattle.enumerate.proofs.walk_starts.Statement.{statement}
 use Rattle.enumerate.proofs.walk_starts.Tie as tie

@@ -8,7 +8,7 @@ use Rattle.table.specs.TableLayer.{childColumn, classColumn}
 use Rattle.walk.specs.declared.Progress.{Progress}
 use Rattle.walk.specs.WalkLayer.{RootsFrom, rowsOf, firstBelow}
 use Rattle.walk.specs.WalkLaws.{walkable-kept, nodes-shallow, roots-past, roots-skip, roots-full, roots-over, roots-step}
-use Rattle.walk.specs.OpenRowsLaws.{below-leaf}
+use Rattle.walk.specs.OpenRowsLaws.{below-leaf, first-open}
 use Rattle.walk.proofs.roots.Statement.{statement}
 use Rattle.walk.proofs.roots.Tie as tie
 use Rattle.walk.proofs.roots.Reads as reads
@@ -137,7 +137,10 @@ below-requires : tie.Need-below-requires Inv-loop μ-loop
 below-requires c κs =
     let s = c .before .before .before .before .before .before .before .before .before .before .before .before .before .before .before .before .before .before in
     let i = c .before .before .before .before .before .before .before .before .before .before .before .loop .inv in
-    (walkable-kept (sym (i .1)) (s .pre .0), omega (arith, s .pre .1, i .2, c .before .before .before .before .before .before .if3 .left, c .before .before .before .before .before .before .before .before .before .before .loop-test .taken))
+    let t = s .args .table .now in
+    let l = c .before .before .before .before .before .before .before .before .before .before .before .loop in
+    let unmarked = first-open (childColumn t) (classColumn t) (s .args .bounds .limit) (l .p) (s .args .place .level) _ (l .marks) (c .before .before .before .before .first-below .ensures) (omega (arith, c .before .before .if4 .left, c .before .before .before .rows .ensures 3)) in
+    (walkable-kept (sym (i .1)) (s .pre .0), (omega (arith, s .pre .1, i .2, c .before .before .before .before .before .before .if3 .left, c .before .before .before .before .before .before .before .before .before .before .loop-test .taken), unmarked))
 
 -- src/lib.rt:294:13
 same-length-3 : tie.Need-same-length-3 Inv-loop μ-loop
