@@ -1,16 +1,21 @@
--- The front of an array that was lent, written and given back, and is lent again. Assumes nothing.
+-- Rows prepared in the fronts of working arrays of any size. Assumes nothing.
 use mathlib.Core.Path.{_≡_, sym, ap, subst, _∙_}
+use mathlib.Core.Bool.{Bool}
 use mathlib.Core.List.{List, _++_, map}
-use Prim.Native.Nat.{ℕ, _≤_}
-use lib.ListN.{length, take, drop}
+use Prim.Native.Nat.{ℕ, _*_, _≤_}
+use native.Mathlib.Omega.{arith}
+use lib.IntN.{ℤ}
+use lib.ListN.{length, take, drop, replicate, length-replicate}
 use lib.Seq.{length-take-le, length-front, take-at}
 use Rattle.board.specs.declared.Row.{Row}
+use Rattle.table.specs.TableLayer.{rowColumn}
+use Rattle.table.specs.TableLaws.{column-length}
+use Rattle.links.specs.PreparedLayer.{Prepared, StartFlags, WithNumerals}
+use Rattle.enumerate.specs.EnumerateLayer.{ClearWorkspace}
+use Rattle.assemble.specs.AssembledLayer.{PreparedRows}
+use Rattle.assemble.specs.AssembledLaws.{take-replicate, marks-none}
 
-pub front-few : (n m : ℕ) (l : List ℕ) → n ≤ length l → n ≤ m → length (take n l) ≤ m
-front-few n m l h few = subst (λ k. k ≤ m) (sym (length-take-le n l h)) few
-
-pub fronts-same : {A B : Type 0} (n : ℕ) (l : List A) (m : List B) → n ≤ length l → n ≤ length m → length (take n l) ≡ length (take n m)
-fronts-same n l m a b = length-take-le n l a ∙ sym (length-take-le n m b)
+-- ---- the front of an array that was lent, written and given back, and is lent again
 
 module _ {A : Type 0} (n : ℕ) (written lent : List A) (same : length written ≡ length (take n lent)) (within : n ≤ length lent) where
   pub back-within : n ≤ length (written ++ drop n lent)
@@ -19,6 +24,36 @@ module _ {A : Type 0} (n : ℕ) (written lent : List A) (same : length written �
   pub back-long : length (take n (written ++ drop n lent)) ≡ n
   back-long = length-take-le n (written ++ drop n lent) back-within
 
-  -- a field of the first rows that was written there
-  pub field-back : (field : Row → A) (R : List Row) (other : List ℕ) → n ≤ length other → written ≡ map field (take (length (take n other)) R) → take n (written ++ drop n lent) ≡ map field (take n R)
-  field-back field R other h e = take-at written (drop n lent) n (same ∙ length-take-le n lent within) ∙ e ∙ ap (λ k. map field (take k R)) (length-take-le n other h)
+-- ---- n rows in arrays for as many rows or more
+
+module _ (n : ℕ) where
+  pub preparing : (minutes : List ℤ) (table parentKeys numeralKeys scratch : List ℕ) → n ≤ 1024 → n ≤ length minutes → 8 * n ≤ length table → n ≤ length parentKeys → n ≤ length numeralKeys → n ≤ length scratch
+      → (length (take n minutes) ≤ 1024) × (length (take (8 * n) table) ≡ 8 * length (take n minutes)) × (length (take n parentKeys) ≡ length (take n minutes)) × (length (take n numeralKeys) ≡ length (take n minutes)) × (length (take n scratch) ≡ length (take n minutes))
+  preparing minutes table parentKeys numeralKeys scratch few a b c d e =
+      let m = length-take-le n minutes a in
+      (omega arith, length-take-le (8 * n) table b ∙ ap (λ (k : ℕ). 8 * k) (sym m), length-take-le n parentKeys c ∙ sym m, length-take-le n numeralKeys d ∙ sym m, length-take-le n scratch e ∙ sym m)
+
+  -- what was prepared is lent again
+  pub lent-again : (rows : List Row) (start : Row → Bool) (table table₀ : List ℕ) (minutes minutes₀ : List ℤ) → length table ≡ length (take (8 * n) table₀) → 8 * n ≤ length table₀ → length minutes ≡ length (take n minutes₀) → n ≤ length minutes₀
+      → Prepared (take (length (take n minutes₀)) rows) table × StartFlags (take (length (take n minutes₀)) rows) start table × (minutes ≡ map (λ (r : Row). r .minutes) (take (length (take n minutes₀)) rows))
+      → WithNumerals (take n rows) → PreparedRows (take n rows) start (take (8 * n) (table ++ drop (8 * n) table₀)) (take n (minutes ++ drop n minutes₀))
+  lent-again rows start table table₀ minutes minutes₀ a b c d p w =
+      let k = length-take-le n minutes₀ d in
+      let x = take-at table (drop (8 * n) table₀) (8 * n) (a ∙ length-take-le (8 * n) table₀ b) in
+      record {
+        prepared = subst (λ (t : List ℕ). Prepared (take n rows) t) (sym x) (subst (λ (j : ℕ). Prepared (take j rows) table) k (p .0));
+        flags-are = subst (λ (t : List ℕ). StartFlags (take n rows) start t) (sym x) (subst (λ (j : ℕ). StartFlags (take j rows) start table) k (p .1));
+        numbered = w;
+        minutes-are = take-at minutes (drop n minutes₀) n (c ∙ k) ∙ p .2 ∙ ap (λ (j : ℕ). map (λ (r : Row). r .minutes) (take j rows)) k;
+      }
+
+  -- the fronts of two arrays of zeros
+  pub clear-fronts : (size : ℕ) (t : List ℕ) → n ≤ size → length t ≡ 8 * n → ClearWorkspace (length (rowColumn t)) (take n (replicate size 0)) (take n (replicate size 0))
+  clear-fronts size t h e =
+      let rows : n ≡ length (rowColumn t) = omega (arith, column-length 0 t) in
+      let zeros = take-replicate {A = ℕ} n size 0 h in
+      record {
+        reached-clear = zeros ∙ ap (λ (k : ℕ). replicate k 0) rows;
+        marks-long = omega (arith, length-take-le n (replicate {A = ℕ} size 0) (omega (arith, length-replicate {A = ℕ} size 0)));
+        marks-clear = marks-none n (take n (replicate size 0)) zeros;
+      }

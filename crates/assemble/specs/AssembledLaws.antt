@@ -1,6 +1,6 @@
 -- The branches of a build of rows give the paper's answer. Assumes nothing.
-use mathlib.Core.Path.{_≡_, refl, sym, ap, ap₂, _∙_, subst}
-use mathlib.Core.Logic.{_≢_, _⊎_, inl, ⊎-elim}
+use mathlib.Core.Path.{_≡_, refl, sym, ap, ap₂, _∙_}
+use mathlib.Core.Logic.{_⊎_, inl, ⊎-elim}
 use mathlib.Core.Bool.{Bool, true, false, cond, not, _&&_}
 use mathlib.Core.List.{List, [], _∷_, map, append-nil}
 use Prim.Native.Nat.{ℕ, zero, suc, _-_, _≤_, _<_}
@@ -10,17 +10,16 @@ use borrow.Author.Tests.{ne-eqb, eqb-true}
 use lib.Dec.{eqb}
 use lib.IntN.{ℤ, pos}
 use lib.ListN.{List·getD-eq-default, length, getD, take, replicate, length-replicate, getD-replicate}
-use lib.Seq.{length-take-le}
 use Rattle.lists.specs.Members.{_∈_, append-out, map-out, filter, filter-in, filter-out, numbers, numbers-in, numbers-out, totalsFrom}
 use Rattle.lists.specs.Stores.{front}
 use Rattle.board.specs.declared.Row.{Row}
 use Rattle.image.specs.declared.Body.{Body}
 use Rattle.image.specs.Layout.{imageWords}
 use Rattle.options.specs.declared.Depth.{Depth}
-use Rattle.options.specs.declared.Depth.the-variants.{None}
-use Rattle.options.specs.Options.{orphanOf, multiOf, cycleOf, choiceOf}
+use Rattle.options.specs.ChoiceLayer.{choiceOf}
+use Rattle.options.specs.Options.{orphanOf, multiOf, cycleOf}
 use Rattle.paths.specs.Forest.{memb}
-use Rattle.paths.specs.Rows.{num, RowOf}
+use Rattle.paths.specs.Rows.{num}
 use Rattle.paths.specs.Paths.{last, closes, Orphan, error}
 use Rattle.paths.specs.Nodes.{sorted, starts, regular, orphanRows, orphanNodes, tops, nodes}
 use Rattle.paths.specs.Bodies.{body, orphanCloses, bodies, leftOf}
@@ -29,25 +28,25 @@ use Rattle.paths.specs.SiblingLaws.{sorted-is}
 use Rattle.paths.specs.BodyLaws.{bodies-length, bodies-rows, totals-bodies, left-bodies}
 use Rattle.paths.specs.BoundLaws.{bodies-bounded}
 use Rattle.request.specs.declared.Built.{Built}
-use Rattle.request.specs.Build.{refusedBy}
-use Rattle.walk.specs.Walk.{Walked, Clear}
-use Rattle.prepare.specs.Prepared.{Prepared, Places}
-use Rattle.finish.specs.Finish.{leftOver, lateRefusal, lateAnswer, bodyMinutes, Written, Classes, Finished}
-use Rattle.links.specs.Children.{class-long, class-below, class-iff}
+use Rattle.request.specs.Build.{answerOf}
+use Rattle.request.specs.RefusedLayer.{refusedBy}
+use Rattle.table.specs.TableLayer.{rowColumn, parentColumn, numeralColumn, classColumn}
+use Rattle.walk.specs.WalkLayer.{Walked, Clear}
+use Rattle.finish.specs.FinishLayer.{leftOver, lateRefusal, lateAnswer, bodyMinutes, NodesWritten, Classes, Finished}
+use Rattle.links.specs.ChildrenLaws.{rows-long, class-long, class-below, class-iff}
+use Rattle.links.specs.PreparedLayer.{Prepared, StartFlags, WithNumerals}
 use Rattle.options.specs.declared.Choice.{Choice}
-use Rattle.walk.specs.declared.Met.{Met}
-use Rattle.enumerate.specs.Enumerate.{Ready, StartFlags}
-use Rattle.enumerate.specs.OrphanLaws.{row-count, few}
-use Rattle.refusals.specs.Tests.{capacityOf, lacksStart, earlyRefusal}
-use Rattle.refusals.specs.TestLaws.{given-test, capacity-fits, capacity-over, capacity-bounds, early-clear, early-met}
-use Rattle.assemble.specs.Assembled.{answerOf, Bench, Ran}
+use Rattle.walk.specs.declared.Progress.{Progress}
+use Rattle.enumerate.specs.EnumerateLayer.{RowsKept}
+use Rattle.refusals.specs.TestsLayer.{capacityOf, lacksStart, earlyRefusal}
+use Rattle.refusals.specs.TestsLaws.{capacity-fits, capacity-over, capacity-bounds, early-clear, early-met}
+use Rattle.assemble.specs.AssembledLayer.{RowsBuilt}
 use Rattle.assemble.specs.StartLaws.{lacks-start}
 
 -- ---- a refusal and its answer
 
 module _ (R : List Row) (code : ℕ) (depth : Depth) (start : Row → Bool) (words totals : ℕ) where
-  pub refused-answer : (q : ℕ) → refusalOf R code depth start words totals ≡ q → (q ≡ 0 → ⊥) → refusedBy q ≡ answerOf R code depth start words totals
-  unfolding answerOf
+  pub refused-answer : (q : ℕ) → refusalOf R code depth start words totals ≡ q → (q ≡ 0 → ⊥) → refusedBy q ≡ answerOf R code depth start (refusalOf R code depth start words totals)
   refused-answer q e n =
       let f : eqb (refusalOf R code depth start words totals) 0 ≡ false = ne-eqb (refusalOf R code depth start words totals) 0 (λ z. n (sym e ∙ z)) in
       λ i. record {
@@ -103,86 +102,37 @@ take-replicate zero m a h = refl
 take-replicate (suc n) zero a h = absurd (omega arith)
 take-replicate (suc n) (suc m) a h = ap (λ (l : List _). a ∷ l) (take-replicate n m a (omega arith))
 
--- ---- the rows as they are prepared
+-- ---- the tests before the walk
 
-pub ready-of : (R : List Row) (start : Row → Bool) (row parent numeral child next class owner flags keys : List ℕ) → Prepared R start row parent numeral child next class owner flags keys → ((x : ℕ) → RowOf R x → num R x ≢ 0)
-    → Ready R row parent numeral child next class owner keys
-ready-of R start row parent numeral child next class owner flags keys prepared numbered = record {
-  ordered = prepared .ordered;
-  child-is = prepared .links .child-is;
-  next-is = prepared .links .next-is;
-  class-is = prepared .links .class-is;
-  owner-is = prepared .links .owner-is;
-  keys-are = prepared .links .keys-are;
-  numbered = numbered;
-}
+module _ (R : List Row) (code : ℕ) (depth : Depth) (start : Row → Bool) (t : List ℕ) (prepared : Prepared R t) (flags-are : StartFlags R start t) (numbered : WithNumerals R)
+    (choice : Choice) (choice-is : choice ≡ choiceOf code) where
+  eight-is : lacksStart (choice .orphan) t ≡ refusal8 (orphanOf code) (tops R start depth) (starts R start)
+  eight-is = lacks-start R start t prepared flags-are numbered depth (choice .orphan) ∙ ap (λ (c : Choice). refusal8 (c .orphan) (tops R start depth) (starts R start)) choice-is
 
-module _ (R : List Row) (code : ℕ) (depth : Depth) (start : Row → Bool) (row parent numeral child next class owner keys flags : List ℕ)
-    (ready : Ready R row parent numeral child next class owner keys) (flags-are : StartFlags R start row flags)
-    (choice : Choice) (choice-is : choice ≡ choiceOf code) (reached : List ℕ) (clear : reached ≡ replicate (length row) 0) where
-  eight-is : lacksStart (choice .orphan) flags row reached parent owner ≡ refusal8 (orphanOf code) (tops R start depth) (starts R start)
-  eight-is =
-      lacks-start R start depth row parent numeral child next class owner keys flags ready flags-are (choice .orphan) reached clear
-      ∙ ap (λ (c : Choice). refusal8 (c .orphan) (tops R start depth) (starts R start)) choice-is
-
-  module _ (q words totals : ℕ) (q-is : q ≡ earlyRefusal (lacksStart (choice .orphan) flags row reached parent owner) words totals) where
+  module _ (q words totals : ℕ) (q-is : q ≡ earlyRefusal (lacksStart (choice .orphan) t) words totals) where
     -- no test was met
     pub early-start : q ≡ 0 → refusal8 (orphanOf code) (tops R start depth) (starts R start) ≡ false
     early-start e = sym eight-is ∙ early-clear _ words totals (sym q-is ∙ e) .0
 
   -- a test was met
-  pub early-ran : (six : refusal6 code ≡ false) (seven : refusal7 (orphanOf code) depth ≡ false) (index index′ : List ℕ) (totals totals′ : List ℤ) (r : Built) (q : ℕ)
-      → q ≡ earlyRefusal (lacksStart (choice .orphan) flags row reached parent owner) (length index) (length totals) → (q ≡ 0 → ⊥) → r ≡ refusedBy q → Ran R code depth start index index′ totals totals′ r
-  early-ran six seven index index′ totals totals′ r q q-is some e =
+  pub early-built : (six : refusal6 code ≡ false) (seven : refusal7 (orphanOf code) depth ≡ false) (index index′ : List ℕ) (totals totals′ : List ℤ) (r : Built) (q : ℕ)
+      → q ≡ earlyRefusal (lacksStart (choice .orphan) t) (length index) (length totals) → (q ≡ 0 → ⊥) → r ≡ refusedBy q → RowsBuilt R code depth start index index′ totals totals′ r
+  early-built six seven index index′ totals totals′ r q q-is some e =
       ⊎-elim
       (λ m. refused (by-eight R code depth start (length index) (length totals) six seven (sym eight-is ∙ m .0) ∙ sym (q-is ∙ m .1)))
       (λ m. refused (by-nine R code depth start (length index) (length totals) six seven (sym eight-is ∙ m .0) (m .2 (length (bodies R start depth (orphanChoice (orphanOf code))))) ∙ sym (q-is ∙ m .1)))
-      (early-met (lacksStart (choice .orphan) flags row reached parent owner) (length index) (length totals) (λ z. some (q-is ∙ z)))
+      (early-met (lacksStart (choice .orphan) t) (length index) (length totals) (λ z. some (q-is ∙ z)))
     where
-      refused : refusalOf R code depth start (length index) (length totals) ≡ q → Ran R code depth start index index′ totals totals′ r
+      refused : refusalOf R code depth start (length index) (length totals) ≡ q → RowsBuilt R code depth start index index′ totals totals′ r
       refused f = record {
         answer = e ∙ refused-answer R code depth start (length index) (length totals) q f some;
         index-is = λ y. absurd (some (sym f ∙ y));
         totals-are = λ y. absurd (some (sym f ∙ y));
       }
 
--- ---- slices that are the fronts of arrays of m zeros
-
-module _ (n m : ℕ) (within : n ≤ m) (few : m ≤ 1024) where
-  zeros-front : length (take n (replicate {A = ℕ} m 0)) ≡ n
-  zeros-front = length-take-le n (replicate {A = ℕ} m 0) (omega (arith, length-replicate {A = ℕ} m 0))
-
-  pub fresh-places : (order parents numerals : ℕ) → order ≡ n → parents ≡ n → numerals ≡ n → (zeros : List ℕ) → zeros ≡ take n (replicate m 0)
-      → Places (length zeros) order parents numerals (length zeros) (length zeros) (length zeros) (length zeros) (length zeros) (length zeros) (length zeros) (length zeros) (length zeros) (length zeros)
-  fresh-places order parents numerals o p u zeros e =
-      let long : length zeros ≡ n = ap length e ∙ zeros-front in
-      record {
-        few = omega arith;
-        order-long = o ∙ sym long;
-        parents-long = p ∙ sym long;
-        numerals-long = u ∙ sym long;
-        parent-long = refl;
-        numeral-long = refl;
-        child-long = refl;
-        next-long = refl;
-        class-long = refl;
-        owner-long = refl;
-        flags-long = refl;
-        parent-keys-long = refl;
-        numeral-keys-long = refl;
-        scratch-long = refl;
-      }
-
-  pub fresh-bench : (zeros : List ℕ) → zeros ≡ take n (replicate m 0) → Bench (length zeros) zeros zeros zeros
-  fresh-bench zeros e =
-      let clear : zeros ≡ replicate (length zeros) 0 = e ∙ take-replicate n m 0 within ∙ ap (λ (k : ℕ). replicate k 0) (sym (ap length e ∙ zeros-front)) in
-      record { reached-clear = clear; masked-long = refl; marks-clear = clear }
-
-pub orphan-low : (code : ℕ) (choice : Choice) → choice ≡ choiceOf code → choice .orphan ≤ 3
-orphan-low code choice e = omega (arith, ap (λ (c : Choice). c .orphan) e)
-
-pub depth-none : (code : ℕ) (choice : Choice) (depth : Depth) → choice ≡ choiceOf code → refusal7 (orphanOf code) depth ≡ false → 1 < choice .orphan → depth ≡ None
-depth-none code choice depth e s h = given-test depth (orphanOf code) s (subst (λ (c : Choice). 1 < c .orphan) e h)
+-- refusal 7 reads the choice, and the choice is that of the code
+pub seven-is : (code : ℕ) (choice : Choice) (depth : Depth) → choice ≡ choiceOf code → refusal7 (orphanOf code) depth ≡ refusal7 (choice .orphan) depth
+seven-is code choice depth e = ap (λ (c : Choice). refusal7 (c .orphan) depth) (sym e)
 
 pub marks-none : (n : ℕ) (marks : List ℕ) → marks ≡ replicate n 0 → Clear marks
 unfolding Clear
@@ -203,18 +153,19 @@ numeral-of R start depth o b m =
     (λ k. let q = map-out (λ p. body R W true (orphanCloses R o p) p) (orphanNodes R start depth o) b k in ap (λ (x : Body). x .numeral) (q .2) ∙ sym (ap (λ (x : Body). num R (x .row)) (q .2)))
     (append-out (map (λ p. body R W false (closes R p) p) (regular R start depth)) (map (λ p. body R W true (orphanCloses R o p) p) (orphanNodes R start depth o)) b m)
 
-pub classes-of : (R : List Row) (row parent numeral child next class owner keys : List ℕ) → Ready R row parent numeral child next class owner keys → Classes R row class
-classes-of R row parent numeral child next class owner keys y = record {
+-- the classes in a table whose rows and classes are as they were prepared
+pub classes-of : (R : List Row) (t t′ : List ℕ) → Prepared R t → RowsKept t t′ → Classes R (rowColumn t′) (classColumn t′)
+classes-of R t t′ y k = rw (k .rows-same) (rw (k .classes-same) (record {
   row-is = y .ordered .rows-are;
-  row-long = row-count R row parent numeral child next class owner keys y;
-  few = few R row parent numeral child next class owner keys y;
-  class-long = class-long R row parent numeral (y .ordered) class (y .class-is);
-  below = class-below R row parent numeral (y .ordered) class (y .class-is);
-  same = class-iff R row parent numeral (y .ordered) class (y .class-is);
-}
+  row-long = rows-long R (rowColumn t) (parentColumn t) (numeralColumn t) (y .ordered);
+  few = y .ordered .few;
+  class-long = class-long R (rowColumn t) (parentColumn t) (numeralColumn t) (y .ordered) (classColumn t) (y .class-is);
+  below = class-below R (rowColumn t) (parentColumn t) (numeralColumn t) (y .ordered) (classColumn t) (y .class-is);
+  same = class-iff R (rowColumn t) (parentColumn t) (numeralColumn t) (y .ordered) (classColumn t) (y .class-is);
+}))
 
 module _ (R : List Row) (start : Row → Bool) (depth : Depth) (o : Orphan) (words totals cap : ℕ) (long : 8 ≤ words) (some : 1 ≤ totals) (cap-is : cap ≡ capacityOf words totals)
-    (on on′ ix ix′ : List ℕ) (words-are : length ix ≡ words) (m : Met) (w : Walked (bodies R start depth o) 0 cap 0 on on′ ix ix′ m) where
+    (on on′ ix ix′ : List ℕ) (words-are : length ix ≡ words) (m : Progress) (w : Walked (bodies R start depth o) 0 cap 0 on on′ ix ix′ m) where
   pub nodes-over : cap < m .count → refusal9 (length (bodies R start depth o)) words totals ≡ true
   nodes-over h = capacity-over (length (bodies R start depth o)) words totals long some (omega (arith, w .count, cap-is))
 
@@ -228,7 +179,7 @@ module _ (R : List Row) (start : Row → Bool) (depth : Depth) (o : Orphan) (wor
     pub nodes-few : m .count < totals
     nodes-few = omega (arith, capacity-bounds words totals long, cap-is)
 
-    pub nodes-written : Written R (bodies R start depth o) ix ix′ m
+    pub nodes-written : NodesWritten R (bodies R start depth o) ix ix′ m
     nodes-written = record {
       count-is = count-is;
       check-is = w .check fit;
@@ -258,7 +209,7 @@ module _ (R : List Row) (code : ℕ) (depth : Depth) (start : Row → Bool) (ind
   same-nodes : bodies R start depth (orphanChoice (choice .orphan)) ≡ bodies R start depth (orphanChoice (orphanOf code))
   same-nodes = ap (λ (c : Choice). bodies R start depth (orphanChoice (c .orphan))) choice-is
 
-  pub nodes-nine : refusal9 (length (bodies R start depth (orphanChoice (choice .orphan)))) (length index) (length totals) ≡ true → r ≡ refusedBy 9 → Ran R code depth start index index′ totals totals′ r
+  pub nodes-nine : refusal9 (length (bodies R start depth (orphanChoice (choice .orphan)))) (length index) (length totals) ≡ true → r ≡ refusedBy 9 → RowsBuilt R code depth start index index′ totals totals′ r
   nodes-nine nine e =
       let f = by-nine R code depth start (length index) (length totals) six seven eight (ap (λ (l : List Body). refusal9 (length l) (length index) (length totals)) (sym same-nodes) ∙ nine) in
       record {
@@ -268,8 +219,8 @@ module _ (R : List Row) (code : ℕ) (depth : Depth) (start : Row → Bool) (ind
       }
 
   pub nodes-finished : refusal9 (length (bodies R start depth (orphanChoice (choice .orphan)))) (length index) (length totals) ≡ false
-      → Finished R choice (bodies R start depth (orphanChoice (choice .orphan))) index index′ totals totals′ r → Ran R code depth start index index′ totals totals′ r
-  unfolding answerOf lateAnswer
+      → Finished R choice (bodies R start depth (orphanChoice (choice .orphan))) index index′ totals totals′ r → RowsBuilt R code depth start index index′ totals totals′ r
+  unfolding lateAnswer
   nodes-finished nine w =
       record {
         answer = w .answer ∙ ap₂ (λ (c : Choice) (l : List Body). lateAnswer R c l) choice-is same-nodes ∙ whole;
@@ -286,7 +237,7 @@ module _ (R : List Row) (code : ℕ) (depth : Depth) (start : Row → Bool) (ind
       late-here : lateRefusal R choice (bodies R start depth (orphanChoice (choice .orphan))) ≡ refusalOf R code depth start (length index) (length totals)
       late-here = ap₂ (λ (c : Choice) (l : List Body). lateRefusal R c l) choice-is same-nodes ∙ late-code
 
-      whole : lateAnswer R (choiceOf code) bs ≡ answerOf R code depth start (length index) (length totals)
+      whole : lateAnswer R (choiceOf code) bs ≡ answerOf R code depth start (refusalOf R code depth start (length index) (length totals))
       whole = λ i. record {
         refusal = late-code i;
         nodes = cond (eqb (late-code i) 0) (bodies-length R start depth (orphanChoice (orphanOf code)) i) 0;

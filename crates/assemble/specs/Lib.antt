@@ -1,3 +1,3 @@
-pub mod Assembled
+pub mod AssembledLayer
 pub mod StartLaws
 pub mod AssembledLaws

@@ -1,128 +1,125 @@
 -- The test of refusal 8: no start row, and a top orphan. Assumes nothing.
-use mathlib.Core.Path.{_≡_, refl, sym, ap, _∙_, subst}
-use mathlib.Core.Logic.{inl}
-use mathlib.Core.Bool.{Bool, true, false, not, _&&_}
+use mathlib.Core.Path.{_≡_, refl, sym, ap, ap₂, _∙_}
+use mathlib.Core.Bool.{Bool, true, false, not, _&&_, _||_}
 use mathlib.Core.List.{List, [], _∷_, map}
-use Prim.Native.Nat.{ℕ, _-_, _≤_, _<_}
+use Prim.Native.Nat.{ℕ, suc, _+_, _<_}
 use native.Mathlib.Omega.{arith}
-use native.Mathlib.Decide.{decLt}
-use borrow.Author.Tests.{lt-ltb, le-ltb, lt-leb, le-leb}
-use lib.Dec.{T, eqb, leb, ltb}
-use lib.ListN.{length, getD, replicate, length-replicate, getD-replicate}
-use lib.Seq.{ext-getD}
-use Rattle.lists.specs.Choice.{bit}
-use Rattle.lists.specs.Members.{_∈_, filter, filter-in, filter-out, numbers, numbers-in, map-in}
-use Rattle.lists.specs.Counting.{by-place, by-place-length}
+use native.Mathlib.Nat.{zero-add}
+use native.Mathlib.Decide.{ℕ-discrete}
+use borrow.Author.Tests.{ne-eqb}
+use lib.Dec.{eqb}
+use lib.ListN.{length, getD, length-map}
+use Rattle.lists.specs.Choice.{bit, bit-test}
+use Rattle.lists.specs.Members.{filter, keep, numbers, any, is-false, place-of}
+use Rattle.lists.specs.Stores.{getD-mapped}
+use Rattle.board.specs.Journal.{blank}
 use Rattle.board.specs.declared.Row.{Row}
 use Rattle.options.specs.declared.Depth.{Depth}
 use Rattle.options.specs.Options.{levelLimit}
-use Rattle.orphans.specs.Flags.{lastFlag, topFlags}
-use Rattle.passes.specs.Passes.{reachedFlags}
 use Rattle.paths.specs.Forest.{memb, forest}
-use Rattle.paths.specs.Rows.{num, par}
+use Rattle.paths.specs.ForestLaws.{forest-nil, memb-out}
+use Rattle.paths.specs.Rows.{row, num, par}
 use Rattle.paths.specs.Paths.{last}
-use Rattle.paths.specs.Nodes.{sorted, starts, regular, orphanRows, tops}
+use Rattle.paths.specs.Nodes.{sorted, starts, regular, orphanRows, noParent, tops}
 use Rattle.paths.specs.Refusals.{isEmpty, refusal8}
-use Rattle.paths.specs.ForestLaws.{forest-nil}
-use Rattle.walk.specs.Walk.{flagged}
-use Rattle.enumerate.specs.Enumerate.{Ready, StartFlags, topsAmong}
-use Rattle.enumerate.specs.OrphanLaws.{tops-rows}
-use Rattle.enumerate.specs.EnumerateLaws.{all-starts, flags-long, child-count, one-flagged, none-flagged}
-use Rattle.refusals.specs.Tests.{lacksStart}
+use Rattle.links.specs.PreparedLayer.{Prepared, StartFlags, WithNumerals}
+use Rattle.links.specs.StartLaws.{parent-position-test}
+use Rattle.table.specs.TableLayer.{rowColumn, parentColumn, numeralColumn, parentPositionColumn}
+use Rattle.refusals.specs.TestsLayer.{startAt, parentlessAt, lacksStart}
 
-zeros-reached : (n : ℕ) → replicate n 0 ≡ reachedFlags [] n
-unfolding reachedFlags
-zeros-reached n =
-    ext-getD 0 (replicate n 0) (map (λ x. bit (memb x [])) (numbers 1 n)) (length-replicate {A = ℕ} n 0 ∙ sym (by-place-length (λ x. bit (memb x [])) 1 n))
-    (λ i h. getD-replicate {A = ℕ} n i 0 0 (omega (arith, length-replicate {A = ℕ} n 0)) ∙ sym (by-place (λ x. bit (memb x [])) 1 n i 0 (omega (arith, length-replicate {A = ℕ} n 0))))
+-- ---- lists
 
-empty-none : (flags row l : List ℕ) (n : ℕ) → n ≡ length flags → map (λ q. getD row q 0) (flagged flags 0 n) ≡ l → n ≤ lastFlag flags → l ≡ []
-empty-none flags row l n e m h = sym m ∙ ap (map (λ q. getD row q 0)) (none-flagged flags n e h)
+-- a test of positions, where each position's test is that of the element there
+any-positions : {A : Type 0} (f : A → Bool) (g : ℕ → Bool) (l : List A) (d : A) (i : ℕ) → ((p : ℕ) → p < length l → g (i + p) ≡ f (getD l p d)) → any g (numbers i (length l)) ≡ any f l
+any-positions f g [] d i e = refl
+any-positions f g (x ∷ l) d i e =
+    let z : i ≡ i + 0 = omega arith in
+    ap₂ (λ (a b : Bool). a || b) (ap g z ∙ e 0 (omega arith))
+    (any-positions f g l d (suc i) (λ p h. let s : suc i + p ≡ i + suc p = omega arith in ap g s ∙ e (suc p) (omega arith)))
 
-some-flagged : (flags : List ℕ) (n : ℕ) → n ≡ length flags → lastFlag flags < n → lastFlag flags ∈ flagged flags 0 n
-unfolding flagged
-some-flagged flags n e h =
-    let p : ℕ = lastFlag flags in
-    let z : n - 0 ≡ n = omega arith in
-    let t : T (eqb (getD flags p 0) 1) = one e h in
-    subst (λ (j : ℕ). p ∈ filter (λ q. eqb (getD flags q 0) 1) (numbers 0 j)) (sym z) (filter-in (λ q. eqb (getD flags q 0) 1) (numbers 0 n) p (numbers-in 0 n p (omega arith) (omega arith)) t)
+empty-any : (f : ℕ → Bool) (l : List ℕ) → isEmpty (filter f l) ≡ not (any f l)
+empty-any f [] = refl
+empty-any f (x ∷ l) = go (f x) (empty-any f l)
   where
-    one : n ≡ length flags → lastFlag flags < n → T (eqb (getD flags (lastFlag flags) 0) 1)
-    one e h = filter-out (λ q. eqb (getD flags q 0) 1) (numbers (lastFlag flags) (n - lastFlag flags)) (lastFlag flags) (subst (λ (l : List ℕ). lastFlag flags ∈ l) (sym (one-flagged flags n e h)) (inl refl)) .1
+    go : (b : Bool) → isEmpty (filter f l) ≡ not (any f l) → isEmpty (keep b x (filter f l)) ≡ not (b || any f l)
+    go true e = refl
+    go false e = e
 
--- a list of flagged rows is empty exactly where no flag is set
-flags-empty : (flags row l : List ℕ) (n : ℕ) → n ≡ length flags → map (λ q. getD row q 0) (flagged flags 0 n) ≡ l → isEmpty l ≡ leb n (lastFlag flags)
-flags-empty flags row l n e m = go (decLt (lastFlag flags) n)
-  where
-    empty : (l : List ℕ) → l ≡ [] → isEmpty l ≡ true
-    empty l z = ap isEmpty z
+filter-every : (l : List ℕ) → filter (λ x. not (memb x [])) l ≡ l
+filter-every [] = refl
+filter-every (x ∷ l) = ap (λ (m : List ℕ). x ∷ m) (filter-every l)
 
-    full : (l : List ℕ) (x : ℕ) → x ∈ l → isEmpty l ≡ false
-    full [] x k = absurd k
-    full (y ∷ l) x k = refl
+-- ---- without a start row every row is in U
 
-    go : Dec (lastFlag flags < n) → isEmpty l ≡ leb n (lastFlag flags)
-    go (yes h) = full l (getD row (lastFlag flags) 0) (subst (λ (w : List ℕ). getD row (lastFlag flags) 0 ∈ w) m (map-in (λ q. getD row q 0) (flagged flags 0 n) (lastFlag flags) (some-flagged flags n e h))) ∙ sym (lt-leb n (lastFlag flags) h)
-    go (no h) = empty l (empty-none flags row l n e m (omega arith)) ∙ sym (le-leb n (lastFlag flags) (omega arith))
-
--- without a start row every row is in U
 no-regular : (R : List Row) (start : Row → Bool) (depth : Depth) → starts R start ≡ [] → map last (regular R start depth) ≡ []
 unfolding regular
 no-regular R start depth e =
     ap (λ (l : List ℕ). map last (forest (num R) (par R) (sorted R) (levelLimit depth (length R)) [] l)) e
     ∙ ap (map last) (forest-nil (num R) (par R) (sorted R) (levelLimit depth (length R)) [])
 
-tops-all : (R : List Row) (start : Row → Bool) (depth : Depth) → starts R start ≡ [] → topsAmong R [] ≡ tops R start depth
+tops-all : (R : List Row) (start : Row → Bool) (depth : Depth) → starts R start ≡ [] → tops R start depth ≡ filter (λ x. noParent R (par R x)) (sorted R)
 unfolding tops orphanRows
-tops-all R start depth e = ap (topsAmong R) (sym (no-regular R start depth e))
+tops-all R start depth e =
+    ap (λ (l : List ℕ). filter (λ x. noParent R (par R x)) (filter (λ x. not (memb x l)) (sorted R))) (no-regular R start depth e)
+    ∙ ap (filter (λ x. noParent R (par R x))) (filter-every (sorted R))
 
-module _ (R : List Row) (start : Row → Bool) (depth : Depth) (row parent numeral child next class owner keys flags : List ℕ)
-    (ready : Ready R row parent numeral child next class owner keys) (flags-are : StartFlags R start row flags) where
-  starts-empty : isEmpty (starts R start) ≡ leb (length row) (lastFlag flags)
+-- ---- the rows of a table
+
+module _ (R : List Row) (start : Row → Bool) (t : List ℕ) (p : Prepared R t) (flags-are : StartFlags R start t) (numbered : WithNumerals R) where
+  over-rows : (f : ℕ → Bool) (g : ℕ → Bool) → ((q : ℕ) → q < length (rowColumn t) → g q ≡ f (getD (rowColumn t) q 0)) → any g (numbers 0 (length (rowColumn t))) ≡ any f (sorted R)
+  over-rows f g e = any-positions f g (rowColumn t) 0 0 (λ q h. ap g (zero-add q) ∙ e q h) ∙ ap (any f) (p .ordered .rows-are)
+
+  starts-empty : isEmpty (starts R start) ≡ not (any (startAt t) (numbers 0 (length (rowColumn t))))
+  unfolding starts
   starts-empty =
-      let c = child-count R start depth row parent numeral child next class owner keys flags ready flags-are in
-      let f = flags-long R start depth row parent numeral child next class owner keys flags ready flags-are in
-      flags-empty flags row (starts R start) (length row) (sym f)
-      (ap (λ (j : ℕ). map (λ q. getD row q 0) (flagged flags 0 j)) (sym c) ∙ all-starts R start depth row parent numeral child next class owner keys flags ready flags-are)
+      empty-any (λ x. start (row R x)) (sorted R)
+      ∙ ap not (sym (over-rows (λ x. start (row R x)) (startAt t)
+      (λ q h. ap (λ (l : List ℕ). eqb (getD l q 0) 1) flags-are ∙ ap (λ (k : ℕ). eqb k 1) (getD-mapped (λ x. bit (start (row R x))) (rowColumn t) q 0 0 h) ∙ bit-test (start (row R (getD (rowColumn t) q 0))))))
 
-  tops-empty : starts R start ≡ [] → (reached : List ℕ) → reached ≡ replicate (length row) 0 → isEmpty (tops R start depth) ≡ leb (length row) (lastFlag (topFlags row reached parent owner))
-  unfolding topFlags
-  tops-empty e reached z =
-      let t : List ℕ = topFlags row reached parent owner in
-      let same : t ≡ topFlags row (reachedFlags [] (length row)) parent owner = ap (λ (l : List ℕ). topFlags row l parent owner) (z ∙ zeros-reached (length row)) in
-      flags-empty t row (tops R start depth) (length row) (sym (by-place-length _ 0 (length row)))
-      (tops-rows R row parent numeral child next class owner keys ready [] t same ∙ tops-all R start depth e)
+  -- 0 is no row's numeral
+  no-zero : memb 0 (map (λ (r : Row). r .numeral) R) ≡ false
+  no-zero = is-false (memb 0 numerals) (λ m. out (place-of numerals 0 0 (memb-out 0 numerals m)))
+    where
+      numerals : List ℕ
+      numerals = map (λ (r : Row). r .numeral) R
+
+      out : (k : ℕ) × (k < length (map (λ (r : Row). r .numeral) R)) × (getD (map (λ (r : Row). r .numeral) R) k 0 ≡ 0) → ⊥
+      out (k, lt, e) =
+          let h : k < length R = omega (arith, length-map R (λ (r : Row). r .numeral)) in
+          numbered (suc k) (omega arith, omega arith) (sym (getD-mapped (λ (r : Row). r .numeral) R k blank 0 h) ∙ e)
+
+  parentless-is : (q : ℕ) → q < length (rowColumn t) → parentlessAt t q ≡ noParent R (par R (getD (rowColumn t) q 0))
+  parentless-is q h =
+      parent-position-test R (rowColumn t) (parentColumn t) (numeralColumn t) (p .ordered) (parentPositionColumn t) (p .parent-position-is) q h
+      ∙ go (ℕ-discrete (par R (getD (rowColumn t) q 0)) 0)
+    where
+      go : Dec (par R (getD (rowColumn t) q 0) ≡ 0) → not (memb (par R (getD (rowColumn t) q 0)) (map (λ (r : Row). r .numeral) R)) ≡ noParent R (par R (getD (rowColumn t) q 0))
+      go (yes e) = ap (λ (k : ℕ). not (memb k (map (λ (r : Row). r .numeral) R))) e ∙ ap not no-zero ∙ sym (ap (noParent R) e)
+      go (no n) = sym (ap (λ (b : Bool). b || not (memb (par R (getD (rowColumn t) q 0)) (map (λ (r : Row). r .numeral) R))) (ne-eqb (par R (getD (rowColumn t) q 0)) 0 n))
+
+  tops-empty : (depth : Depth) → starts R start ≡ [] → isEmpty (tops R start depth) ≡ not (any (parentlessAt t) (numbers 0 (length (rowColumn t))))
+  tops-empty depth e =
+      ap isEmpty (tops-all R start depth e)
+      ∙ empty-any (λ x. noParent R (par R x)) (sorted R)
+      ∙ ap not (sym (over-rows (λ x. noParent R (par R x)) (parentlessAt t) parentless-is))
 
   -- the test of refusal 8
-  pub lacks-start : (orphan : ℕ) (reached : List ℕ) → reached ≡ replicate (length row) 0 → lacksStart orphan flags row reached parent owner ≡ refusal8 orphan (tops R start depth) (starts R start)
+  pub lacks-start : (depth : Depth) (orphan : ℕ) → lacksStart orphan t ≡ refusal8 orphan (tops R start depth) (starts R start)
   unfolding lacksStart
-  lacks-start orphan reached z = ap (λ (t : Bool). eqb orphan 2 && t) (go (isEmpty (starts R start)) refl)
+  lacks-start depth orphan = ap (λ (b : Bool). eqb orphan 2 && b) (go (starts R start) refl)
     where
-      flip : (a b : ℕ) → ltb a b ≡ not (leb b a)
-      flip a b = side (decLt a b)
-        where
-          side : Dec (a < b) → ltb a b ≡ not (leb b a)
-          side (yes h) = lt-ltb a b h ∙ sym (ap not (lt-leb b a h))
-          side (no h) = le-ltb a b (omega arith) ∙ sym (ap not (le-leb b a (omega arith)))
+      twice : (x : Bool) → (not (not x) && true) ≡ x
+      twice true = refl
+      twice false = refl
 
-      nil : (l : List ℕ) → isEmpty l ≡ true → l ≡ []
-      nil [] e = refl
-      nil (x ∷ l) e = let q : _≡_ {A = ℕ} 0 1 = cc in absurd (omega arith)
+      neither : (x : Bool) → (x && false) ≡ false
+      neither true = refl
+      neither false = refl
 
-      and-no : (x : Bool) → (x && false) ≡ false
-      and-no true = refl
-      and-no false = refl
-
-      and-yes : (x : Bool) → (x && true) ≡ x
-      and-yes true = refl
-      and-yes false = refl
-
-      go : (s : Bool) → isEmpty (starts R start) ≡ s → (leb (length row) (lastFlag flags) && ltb (lastFlag (topFlags row reached parent owner)) (length row)) ≡ (not (isEmpty (tops R start depth)) && isEmpty (starts R start))
-      go true e =
-          ap (λ (t : Bool). t && ltb (lastFlag (topFlags row reached parent owner)) (length row)) (sym starts-empty ∙ e)
-          ∙ flip (lastFlag (topFlags row reached parent owner)) (length row)
-          ∙ ap not (sym (tops-empty (nil (starts R start) e) reached z))
-          ∙ sym (ap (λ (t : Bool). not (isEmpty (tops R start depth)) && t) e ∙ and-yes (not (isEmpty (tops R start depth))))
-      go false e =
-          ap (λ (t : Bool). t && ltb (lastFlag (topFlags row reached parent owner)) (length row)) (sym starts-empty ∙ e)
-          ∙ sym (ap (λ (t : Bool). not (isEmpty (tops R start depth)) && t) e ∙ and-no (not (isEmpty (tops R start depth))))
+      go : (l : List ℕ) → starts R start ≡ l → (not (any (startAt t) (numbers 0 (length (rowColumn t)))) && any (parentlessAt t) (numbers 0 (length (rowColumn t)))) ≡ (not (isEmpty (tops R start depth)) && isEmpty (starts R start))
+      go [] e =
+          let X : Bool = any (parentlessAt t) (numbers 0 (length (rowColumn t))) in
+          ap (λ (b : Bool). b && X) (sym starts-empty ∙ ap isEmpty e) ∙ sym (ap₂ (λ (a b : Bool). not a && b) (tops-empty depth e) (ap isEmpty e) ∙ twice X)
+      go (x ∷ l) e =
+          ap (λ (b : Bool). b && any (parentlessAt t) (numbers 0 (length (rowColumn t)))) (sym starts-empty ∙ ap isEmpty e)
+          ∙ sym (ap (λ (b : Bool). not (isEmpty (tops R start depth)) && b) (ap isEmpty e) ∙ neither (not (isEmpty (tops R start depth))))

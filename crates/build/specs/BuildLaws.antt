@@ -1,9 +1,8 @@
 -- The branches of a build give the paper's answer. Assumes nothing.
 use mathlib.Core.Path.{_≡_, sym, ap, _∙_, subst}
-use mathlib.Core.Logic.{_≢_}
 use mathlib.Core.Bool.{Bool, true, false, cond, not}
 use mathlib.Core.List.{List}
-use Prim.Native.Nat.{ℕ, zero, suc, _-_}
+use Prim.Native.Nat.{ℕ, zero, suc, _≤_}
 use native.Mathlib.Omega.{arith}
 use borrow.Author.Tests.{eq-eqb, ne-eqb}
 use lib.IntN.{ℤ, pos}
@@ -17,16 +16,19 @@ use Rattle.board.specs.Edits.{rowsOf, soundOf}
 use Rattle.board.specs.Laws.{sound-numeral}
 use Rattle.image.specs.Layout.{imageWords}
 use Rattle.options.specs.declared.Depth.{Depth}
+use Rattle.options.specs.declared.Choice.{Choice}
+use Rattle.options.specs.ChoiceLayer.{choiceOf}
 use Rattle.options.specs.Options.{orphanOf}
-use Rattle.paths.specs.Rows.{num, RowOf}
 use Rattle.paths.specs.Nodes.{nodes}
 use Rattle.paths.specs.Bodies.{bodies, runningTotals}
 use Rattle.paths.specs.Refusals.{orphanChoice, refusal6, refusal7, refusalOf}
+use Rattle.links.specs.PreparedLayer.{WithNumerals}
 use Rattle.request.specs.declared.Built.{Built}
-use Rattle.request.specs.Build.{refusedBy, buildRefusal, builtOf, indexAfter, totalsAfter}
-use Rattle.assemble.specs.Assembled.{answerOf, Ran}
+use Rattle.request.specs.Build.{answerOf, buildRefusal, builtOf, indexAfter, totalsAfter}
+use Rattle.request.specs.RefusedLayer.{refusedBy}
+use Rattle.assemble.specs.AssembledLayer.{RowsBuilt}
 use Rattle.assemble.specs.AssembledLaws.{refused-answer}
-use Rattle.build.specs.Attempted.{Attempted}
+use Rattle.build.specs.AttemptedLayer.{Attempted}
 
 pub by-six : (R : List Row) (code : ℕ) (depth : Depth) (start : Row → Bool) (words totals : ℕ) → refusal6 code ≡ true → refusalOf R code depth start words totals ≡ 6
 unfolding refusalOf
@@ -36,14 +38,17 @@ pub by-seven : (R : List Row) (code : ℕ) (depth : Depth) (start : Row → Bool
 unfolding refusalOf
 by-seven R code depth start words totals six e = simp (six, e)
 
+pub orphan-few : (code : ℕ) (choice : Choice) → choice ≡ choiceOf code → choice .orphan ≤ 3
+orphan-few code choice e = omega (arith, ap (λ (c : Choice). c .orphan) e)
+
 -- ---- a board that is sound or not
 
 pub unsound-answer : (b : Board) (code : ℕ) (depth : Depth) (start : Row → Bool) (words totals : ℕ) → soundOf b ≡ false → refusedBy 1 ≡ builtOf b code depth start words totals
 unfolding builtOf buildRefusal
 unsound-answer b code depth start words totals e = simp e
 
-pub sound-answer : (b : Board) (code : ℕ) (depth : Depth) (start : Row → Bool) (words totals : ℕ) → soundOf b ≡ true → answerOf (rowsOf b) code depth start words totals ≡ builtOf b code depth start words totals
-unfolding builtOf buildRefusal answerOf
+pub sound-answer : (b : Board) (code : ℕ) (depth : Depth) (start : Row → Bool) (words totals : ℕ) → soundOf b ≡ true → answerOf (rowsOf b) code depth start (refusalOf (rowsOf b) code depth start words totals) ≡ builtOf b code depth start words totals
+unfolding builtOf buildRefusal
 sound-answer b code depth start words totals e = simp e
 
 pub sound-refusal : (b : Board) (code : ℕ) (depth : Depth) (start : Row → Bool) (words totals : ℕ) → soundOf b ≡ true → buildRefusal b code depth start words totals ≡ refusalOf (rowsOf b) code depth start words totals
@@ -72,14 +77,14 @@ attempt-unsound b code depth start index index′ totals totals′ s =
     attempt-refused b code depth start index index′ totals totals′ 1 (unsound-refusal b code depth start (length index) (length totals) s) (λ z. absurd (omega arith)) (unsound-answer b code depth start (length index) (length totals) s)
 
 -- the rows of a sound board were built
-pub attempt-ran : (b : Board) (code : ℕ) (depth : Depth) (start : Row → Bool) (index index′ : List ℕ) (totals totals′ : List ℤ) (r : Built) → soundOf b ≡ true
-    → Ran (rowsOf b) code depth start index index′ totals totals′ r → Attempted b code depth start index index′ totals totals′ r
-attempt-ran b code depth start index index′ totals totals′ r s w =
+pub attempt-built : (b : Board) (code : ℕ) (depth : Depth) (start : Row → Bool) (index index′ : List ℕ) (totals totals′ : List ℤ) (r : Built) → soundOf b ≡ true
+    → RowsBuilt (rowsOf b) code depth start index index′ totals totals′ r → Attempted b code depth start index index′ totals totals′ r
+attempt-built b code depth start index index′ totals totals′ r s w =
     let e = sound-refusal b code depth start (length index) (length totals) s in
     record { answer = w .answer ∙ sound-answer b code depth start (length index) (length totals) s; index-is = λ z. w .index-is (sym e ∙ z); totals-are = λ z. w .totals-are (sym e ∙ z) }
 
 -- each row of a sound board has a numeral
-pub sound-numbered : (b : Board) → soundOf b ≡ true → (x : ℕ) → RowOf (rowsOf b) x → num (rowsOf b) x ≢ 0
+pub sound-numbered : (b : Board) → soundOf b ≡ true → WithNumerals (rowsOf b)
 sound-numbered b s zero r z = absurd (omega (arith, r))
 sound-numbered b s (suc k) r z = absurd (omega (arith, sound-numeral b s (getD (rowsOf b) k blank) (getD-in (rowsOf b) k blank (omega (arith, r)))))
 

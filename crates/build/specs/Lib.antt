@@ -1,2 +1,2 @@
-pub mod Attempted
+pub mod AttemptedLayer
 pub mod BuildLaws

@@ -1,25 +1,12 @@
 // The build: the hierarchy index of a board over all its paths, and the running totals.
 ghost use mathlib.Core.Path.{_≡_};
-ghost use lib.IntN.{pos};
-ghost use lib.ListN.{length, replicate};
-ghost use Rattle.options.specs.declared.Depth.the-variants.{None};
-ghost use Rattle.paths.specs.Rows.{parentZero};
-ghost use Rattle.request.specs.Build.{startRule, builtOf, indexAfter, totalsAfter};
-ghost use Rattle.build.specs.Attempted.{Attempted};
+ghost use lib.ListN.{length};
+ghost use Rattle.request.specs.Build.{startRule, builtOf, indexAfter, totalsAfter, defaultCode, defaultDepth, defaultStart};
+ghost use Rattle.build.specs.AttemptedLayer.{Attempted};
 use board::Board;
 use options::Depth;
 use request::Built;
 use request::Start;
-
-fn clear_totals(s: &mut [i64])
-    ensures { λ _. ⌜ now (s .exit) ≡ replicate (length (now (s .entry))) (pos 0) ⌝ }
-{
-    let mut k = 0;
-    while k < s.len() {
-        s[k] = 0;
-        k += 1;
-    }
-}
 
 // The build of a board. Where it is refused, both slices may hold anything.
 fn attempt(
@@ -39,12 +26,13 @@ fn attempt(
     if 23 < code {
         return request::refused(6);
     }
-    if refusals::is_depth_refused(code % 4, depth) {
+    let choice = options::choices(code as usize);
+    if refusals::is_depth_refused(choice.orphan, depth) {
         return request::refused(7);
     }
     let rows = board.rows;
     let n = board.count;
-    assemble::build_rows(rows, n, code, depth, start, list, index, totals)
+    assemble::build_rows(rows, n, choice, depth, start, list, index, totals)
 }
 
 // Builds the index of a board and its running totals. A refused build leaves both slices all zero.
@@ -65,16 +53,16 @@ pub fn build(
     if built.refusal == 0 {
         return built;
     }
-    assemble::clear_words(index);
-    clear_totals(totals);
+    lists::clear(index);
+    lists::clear_i64(totals);
     built
 }
 
 // The build by default: code 0, no depth, the rows with parent 0.
 pub fn build_default(board: Board, index: &mut [u32], totals: &mut [i64]) -> Built
-    ensures { λ r. ⌜ r ≡ builtOf board 0 None parentZero (length (now (index .entry))) (length (now (totals .entry))) ⌝ }
-    ensures { λ _. ⌜ now (index .exit) ≡ indexAfter board 0 None parentZero (now (index .entry)) (length (now (totals .entry))) ⌝ }
-    ensures { λ _. ⌜ now (totals .exit) ≡ totalsAfter board 0 None parentZero (length (now (index .entry))) (now (totals .entry)) ⌝ }
+    ensures { λ r. ⌜ r ≡ builtOf board defaultCode defaultDepth defaultStart (length (now (index .entry))) (length (now (totals .entry))) ⌝ }
+    ensures { λ _. ⌜ now (index .exit) ≡ indexAfter board defaultCode defaultDepth defaultStart (now (index .entry)) (length (now (totals .entry))) ⌝ }
+    ensures { λ _. ⌜ now (totals .exit) ≡ totalsAfter board defaultCode defaultDepth defaultStart (length (now (index .entry))) (now (totals .entry)) ⌝ }
 {
     let unread = [0u32; 1];
     build(

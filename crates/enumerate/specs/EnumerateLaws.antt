@@ -26,8 +26,8 @@ use Rattle.paths.specs.Forest.{next}
 use Rattle.paths.specs.Rows.{row as boardRow, num, par}
 use Rattle.paths.specs.Paths.{last, ignore, adopt, root}
 use Rattle.paths.specs.Nodes.{sorted, starts, regular, orphanRows, tops}
-use Rattle.paths.specs.Emit.{emit}
-use Rattle.paths.specs.Bodies.{mkBody, bodies}
+use Rattle.paths.specs.EmitLayer.{emit, mkBody}
+use Rattle.paths.specs.Bodies.{bodies}
 use Rattle.paths.specs.EmitLaws.{emit-nil}
 use Rattle.paths.specs.BodyWalkLaws.{bodies-ignore, bodies-error, bodies-root}
 use Rattle.paths.specs.AdoptWalkLaws.{bodies-adopt, bodies-adopt-none}
@@ -37,7 +37,7 @@ use Rattle.paths.specs.Refusals.{orphanChoice}
 use Rattle.table.specs.TableLayer.{rowColumn, childColumn, flagColumn}
 use Rattle.table.specs.TableLaws.{column-length}
 use Rattle.links.specs.PreparedLayer.{Prepared, StartFlags}
-use Rattle.links.specs.Starts.{flagged-rows}
+use Rattle.links.specs.StartLaws.{flagged-rows}
 use Rattle.orphans.specs.OutsideLayer.{lastFlag, lastBelow}
 use Rattle.passes.specs.Passes.{Named, rowsTo}
 use Rattle.walk.specs.WalkLayer.{Rows, rowsOf, rowOf, Clear, Walked, flagged}

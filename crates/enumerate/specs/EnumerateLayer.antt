@@ -10,9 +10,8 @@ use Rattle.board.specs.declared.Row.{Row}
 use Rattle.image.specs.declared.Body.{Body}
 use Rattle.paths.specs.Forest.{memb}
 use Rattle.paths.specs.Rows.{num, par}
-use Rattle.paths.specs.Emit.{emit}
+use Rattle.paths.specs.EmitLayer.{emit, mkBody}
 use Rattle.paths.specs.Nodes.{sorted, noParent}
-use Rattle.paths.specs.Bodies.{mkBody}
 use Rattle.table.specs.TableLayer.{rowColumn, numeralColumn, classColumn}
 use Rattle.passes.specs.Passes.{rowsTo}
 use Rattle.walk.specs.WalkLayer.{Rows, rowOf, ListsChildren, MarksSeen, Walked, Clear, nodeBody, flagged}

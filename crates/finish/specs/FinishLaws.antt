@@ -19,7 +19,7 @@ use Rattle.lists.specs.Counting.{by-place, by-place-length}
 use Rattle.board.specs.declared.Row.{Row}
 use Rattle.image.specs.declared.Body.{Body}
 use Rattle.image.specs.Layout.{rowAt, closingAt, bodyOf, flat, checked, contentsWords, imageWords}
-use Rattle.image.specs.ImageLaws.{HoldsImage, holds-front, image-written, row-read, size-read, closing-read}
+use Rattle.image.specs.ImageLaws.{Holds, holds-front, image-written, row-read, size-read, closing-read}
 use Rattle.options.specs.declared.Choice.{Choice}
 use Rattle.paths.specs.Forest.{memb}
 use Rattle.paths.specs.ForestLaws.{eq→eqb}
@@ -30,7 +30,7 @@ use Rattle.passes.specs.PassesLayer.{Named, RowsOnce, ByRow, ClassesByRow, Coun
 use Rattle.table.specs.TableLayer.{rowColumn, classColumn, childColumn, nextColumn}
 use Rattle.table.specs.TableLaws.{column-length}
 use Rattle.request.specs.declared.Built.{Built}
-use Rattle.request.specs.Build.{refusedBy}
+use Rattle.request.specs.RefusedLayer.{refusedBy}
 use Rattle.walk.specs.declared.Progress.{Progress}
 use Rattle.finish.specs.FinishLayer.{NodesWritten, Classes, NodesHeld, leftOver, lateRefusal, lateAnswer, bodyMinutes, Finished}
 
@@ -296,7 +296,7 @@ module _ {R : List Row} {bs : List Body} {before index : List ℕ} {progress : P
       record {
         count-is = w .count-is;
         few = w .few;
-        holds = subst (λ (x : List ℕ). HoldsImage x bs) (sym (front-held index′ e)) (holds-front bs before);
+        holds = subst (λ (x : List ℕ). Holds x bs) (sym (front-held index′ e)) (holds-front bs before);
         row-of = w .row-of;
         numeral-of = w .numeral-of;
       }

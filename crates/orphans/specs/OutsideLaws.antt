@@ -13,7 +13,7 @@ use lib.ListN.{length, getD, set}
 use lib.Seq.{getD-set-same, getD-set-other, ext-getD}
 use Rattle.lists.specs.Members.{_∈_, filter, keep, filter-out, numbers, numbers-out}
 use Rattle.lists.specs.Counting.{by-place, by-place-length}
-use Rattle.links.specs.Links.{Linked, end, more}
+use Rattle.links.specs.LinksLayer.{NextChain, end, more}
 use Rattle.table.specs.TableLayer.{rowColumn, childColumn, nextColumn, classColumn, parentPositionColumn, flagColumn, Stored}
 use Rattle.table.specs.TableLaws.{column-length}
 use Rattle.table.specs.FillLaws.{Filled, filled-at}
@@ -67,13 +67,13 @@ module _ (row reached parentPosition : List ℕ) (c k : ℕ) where
 -- ---- chains
 
 -- a chain depends on the links at its own positions alone
-pub linked-agree : {next next′ : List ℕ} {n q : ℕ} {ps : List ℕ} → Linked next n q ps → ((p : ℕ) → p ∈ ps → getD next′ p 0 ≡ getD next p 0) → Linked next′ n q ps
+pub linked-agree : {next next′ : List ℕ} {n q : ℕ} {ps : List ℕ} → NextChain next n q ps → ((p : ℕ) → p ∈ ps → getD next′ p 0 ≡ getD next p 0) → NextChain next′ n q ps
 linked-agree (end h) same = end h
 linked-agree {next} {next′} {n} {q} (more {ps = ps} lt rest) same =
-    more lt (subst (λ (j : ℕ). Linked next′ n j ps) (sym (same q (inl refl))) (linked-agree rest (λ p m. same p (inr m))))
+    more lt (subst (λ (j : ℕ). NextChain next′ n j ps) (sym (same q (inl refl))) (linked-agree rest (λ p m. same p (inr m))))
 
 -- a chain whose positions are all after k starts after k
-linked-first : {next : List ℕ} {n q : ℕ} {ps : List ℕ} (k : ℕ) → k < n → Linked next n q ps → ((p : ℕ) → p ∈ ps → k < p) → k < q
+linked-first : {next : List ℕ} {n q : ℕ} {ps : List ℕ} (k : ℕ) → k < n → NextChain next n q ps → ((p : ℕ) → p ∈ ps → k < p) → k < q
 linked-first k lt (end h) all = omega arith
 linked-first {q = q} k lt (more _ rest) all = all q (inl refl)
 
@@ -181,18 +181,18 @@ module _ (reached t t₁ : List ℕ) (k : ℕ) (h : LinkedFrom reached t t₁ (k
       rises p lt (yes d) = subst (λ (j : ℕ). j < getD (nextColumn t₄) j 0) (sym d) (subst (λ (j : ℕ). k < j) (sym next-here) later-is)
       rises p lt (no ne) = subst (λ (j : ℕ). p < j) (sym (next-other p ne)) (h .rising p lt)
 
-      rest : (c : ℕ) → c < length t / 8 → Linked (nextColumn t₄) (length t / 8) (getD (childColumn t₁) c 0) (under c (k + 1))
+      rest : (c : ℕ) → c < length t / 8 → NextChain (nextColumn t₄) (length t / 8) (getD (childColumn t₁) c 0) (under c (k + 1))
       rest c lc = linked-agree (h .linked c lc) (λ p m. next-other p (let g = after c p m in omega arith))
 
       more-is : (c : ℕ) (b′ : Bool) → eqb (getD (parentPositionColumn t) k 0) c ≡ b′ → under c k ≡ keep b′ k (under c (k + 1))
       more-is c b′ d = under-more (rowColumn t) reached (parentPositionColumn t) c k (omega (arith, within, column-length 0 t)) ∙ ap (λ (x : Bool). keep x k (under c (k + 1))) (ap₂ _&&_ o d)
 
-      chain : (c : ℕ) → c < length t / 8 → Dec (c ≡ above) → Linked (nextColumn t₄) (length t / 8) (getD (childColumn t₄) c 0) (under c k)
+      chain : (c : ℕ) → c < length t / 8 → Dec (c ≡ above) → NextChain (nextColumn t₄) (length t / 8) (getD (childColumn t₄) c 0) (under c k)
       chain c lc (yes d) =
           let here : getD (childColumn t₄) c 0 ≡ k = ap (λ (l : List ℕ). getD l c 0) child-is ∙ ap (λ (j : ℕ). getD (set (childColumn t₁) above k) j 0) d ∙ getD-set-same (childColumn t₁) above k 0 (omega (arith, column-length 3 t₁, h .long, lowt)) in
           let from : getD (nextColumn t₄) k 0 ≡ getD (childColumn t₁) c 0 = next-here ∙ el ∙ ap (λ (j : ℕ). getD (childColumn t₁) j 0) (sym d) in
           rw (here, more-is c true (eq-eqb (getD (parentPositionColumn t) k 0) c (sym at ∙ sym d)))
-          (more within (subst (λ (j : ℕ). Linked (nextColumn t₄) (length t / 8) j (under c (k + 1))) (sym from) (rest c lc)))
+          (more within (subst (λ (j : ℕ). NextChain (nextColumn t₄) (length t / 8) j (under c (k + 1))) (sym from) (rest c lc)))
       chain c lc (no ne) =
           rw (child-is, getD-set-other (childColumn t₁) above c k 0 ne, more-is c false (ne-eqb (getD (parentPositionColumn t) k 0) c (λ z. ne (sym z ∙ sym at)))) (rest c lc)
 

@@ -7,7 +7,7 @@ use Prim.Native.Nat.{ℕ, zero, suc, _-_, _/_, _≤_, _<_}
 use lib.Dec.{eqb, leb}
 use lib.ListN.{length, getD}
 use Rattle.lists.specs.Members.{filter, numbers}
-use Rattle.links.specs.Links.{Linked}
+use Rattle.links.specs.LinksLayer.{NextChain}
 use Rattle.table.specs.TableLayer.{column, rowColumn, childColumn, nextColumn, classColumn, parentPositionColumn, flagColumn}
 
 -- the row at position p ends no regular path: its flag in `reached`, which goes by row number from 1, is 0
@@ -57,7 +57,7 @@ pub record LinkedFrom (reached t t′ : List ℕ) (k : ℕ) : Type 0 where
   pub long : length t′ ≡ length t
   pub flag-is : (p : ℕ) → k ≤ p → p < length t / 8 → getD (flagColumn t′) p 0 ≡ topAt (rowColumn t) reached (parentPositionColumn t) p
   pub rising : (p : ℕ) → p < length t / 8 → p < getD (nextColumn t′) p 0
-  pub linked : (c : ℕ) → c < length t / 8 → Linked (nextColumn t′) (length t / 8) (getD (childColumn t′) c 0) (outsideUnder (rowColumn t) reached (parentPositionColumn t) c k)
+  pub linked : (c : ℕ) → c < length t / 8 → NextChain (nextColumn t′) (length t / 8) (getD (childColumn t′) c 0) (outsideUnder (rowColumn t) reached (parentPositionColumn t) c k)
   pub others : (j : ℕ) → j < 8 → j ≢ 3 → j ≢ 4 → j ≢ 7 → column j t′ ≡ column j t
 
 -- the rows outside are linked below each row with their parent's numeral, and the top orphans are flagged
@@ -65,5 +65,5 @@ pub record OutsideLinked (reached t t′ : List ℕ) : Type 0 where
   pub long : length t′ ≡ length t
   pub flags-are : flagColumn t′ ≡ topFlags (rowColumn t) reached (parentPositionColumn t)
   pub rising : (p : ℕ) → p < length t / 8 → p < getD (nextColumn t′) p 0
-  pub linked : (p : ℕ) → p < length t / 8 → Linked (nextColumn t′) (length t / 8) (getD (childColumn t′) p 0) (outsideUnder (rowColumn t) reached (parentPositionColumn t) (getD (classColumn t) p 0) 0)
+  pub linked : (p : ℕ) → p < length t / 8 → NextChain (nextColumn t′) (length t / 8) (getD (childColumn t′) p 0) (outsideUnder (rowColumn t) reached (parentPositionColumn t) (getD (classColumn t) p 0) 0)
   pub others : (j : ℕ) → j < 8 → j ≢ 3 → j ≢ 4 → j ≢ 7 → column j t′ ≡ column j t

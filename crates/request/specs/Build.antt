@@ -10,6 +10,7 @@ use Rattle.board.specs.declared.Row.{Row}
 use Rattle.board.specs.declared.Board.{Board}
 use Rattle.board.specs.Edits.{rowsOf, soundOf}
 use Rattle.options.specs.declared.Depth.{Depth}
+use Rattle.options.specs.declared.Depth.the-variants.{None}
 use Rattle.options.specs.Options.{orphanOf}
 use Rattle.image.specs.Layout.{imageWords}
 use Rattle.paths.specs.Rows.{parentZero, numeralIn}
@@ -25,23 +26,22 @@ abbrev pub startRule : Start → List ℕ → Row → Bool
 startRule ParentZero list = parentZero
 startRule Listed list = numeralIn list
 
--- the answer of a build that is refused by a number
-abbrev pub refusedBy : ℕ → Built
-refusedBy number = record { refusal = number; nodes = 0; left = 0 }
+-- "The result carries n and the number of rows that end no node"; "a refused build zeroes both slices and its two counts"
+abbrev pub answerOf : List Row → ℕ → Depth → (Row → Bool) → ℕ → Built
+answerOf R code depth start refusal =
+    record {
+      refusal = refusal;
+      nodes = cond (eqb refusal 0) (length (nodes R start depth (orphanChoice (orphanOf code)))) 0;
+      left = cond (eqb refusal 0) (leftOf R start depth (orphanChoice (orphanOf code))) 0;
+    }
 
 module _ (b : Board) (code : ℕ) (depth : Depth) (start : Row → Bool) (words totals : ℕ) where
   -- "1. The board isn't sound.", then the first of 6 to 12 that applies; 0 for none
   unfoldable pub buildRefusal : ℕ
   buildRefusal = cond (soundOf b) (refusalOf (rowsOf b) code depth start words totals) 1
 
-  -- "The result carries n and the number of rows that end no node"; "a refused build zeroes both slices and its two counts"
   unfoldable pub builtOf : Built
-  builtOf =
-      record {
-        refusal = buildRefusal;
-        nodes = cond (eqb buildRefusal 0) (length (nodes (rowsOf b) start depth (orphanChoice (orphanOf code)))) 0;
-        left = cond (eqb buildRefusal 0) (leftOf (rowsOf b) start depth (orphanChoice (orphanOf code))) 0;
-      }
+  builtOf = answerOf (rowsOf b) code depth start buildRefusal
 
 -- the index slice afterwards: the image at its front and "words beyond are unchanged", or all zero
 unfoldable pub indexAfter : Board → ℕ → Depth → (Row → Bool) → List ℕ → ℕ → List ℕ
@@ -56,3 +56,13 @@ totalsAfter b code depth start words totals =
     cond (eqb (buildRefusal b code depth start words (length totals)) 0)
     (front (runningTotals (rowsOf b) (nodes (rowsOf b) start depth (orphanChoice (orphanOf code)))) totals)
     (replicate (length totals) (pos 0))
+
+-- a build by default: option code 0, no depth, the rows with parent 0
+abbrev pub defaultCode : ℕ
+defaultCode = 0
+
+abbrev pub defaultDepth : Depth
+defaultDepth = None
+
+abbrev pub defaultStart : Row → Bool
+defaultStart = parentZero

@@ -1,6 +1,6 @@
 // What a build is asked and what it answers.
 ghost use mathlib.Core.Path.{_≡_};
-ghost use Rattle.request.specs.Build.{refusedBy};
+ghost use Rattle.request.specs.RefusedLayer.{refusedBy};
 
 // Which rows start a path: those with parent 0, or those whose numeral is in a lent list.
 pub enum Start {

@@ -10,9 +10,9 @@ use lib.Dec.{ltb, eqb}
 use Rattle.lists.specs.Members.{filter, numbers}
 use Rattle.image.specs.declared.Body.{Body}
 use Rattle.image.specs.Layout.{bodyWords, flat, checked}
-use Rattle.links.specs.Links.{Linked}
+use Rattle.links.specs.LinksLayer.{NextChain}
 use Rattle.paths.specs.Forest.{memb, children, next}
-use Rattle.paths.specs.Emit.{orElse, emit}
+use Rattle.paths.specs.EmitLayer.{orElse, emit}
 use Rattle.table.specs.TableLayer.{rowColumn, numeralColumn, childColumn, nextColumn, classColumn, flagColumn}
 use Rattle.walk.specs.declared.Progress.{Progress}
 use Rattle.walk.specs.declared.Place.{Place}
@@ -42,7 +42,7 @@ pub record Walkable (R : Rows) (marks : ℕ) : Type 0 where
 -- the links lead from each row to its children among the rows of the pool, and the classes are those of equal numerals
 pub record ListsChildren (R : Rows) (num par : ℕ → ℕ) (pool : List ℕ) : Type 0 where
   pub kids : ℕ → List ℕ
-  pub linked : (p : ℕ) → p < length (R .child) → Linked (R .next) (length (R .child)) (getD (R .child) p 0) (kids p)
+  pub linked : (p : ℕ) → p < length (R .child) → NextChain (R .next) (length (R .child)) (getD (R .child) p 0) (kids p)
   pub children-are : (p : ℕ) → p < length (R .child) → map (rowOf R) (kids p) ≡ children num par pool (num (rowOf R p))
   pub numeral-is : (p : ℕ) → p < length (R .child) → getD (R .numeral) p 0 ≡ num (rowOf R p)
   pub classes : (p q : ℕ) → p < length (R .child) → q < length (R .child) → (getD (R .class) p 0 ≡ getD (R .class) q 0) ↔ (num (rowOf R p) ≡ num (rowOf R q))
@@ -99,7 +99,7 @@ NodesWalked R orphan limit level parent root ps n cap check on on′ index index
 -- the walk of the row at p and of its later siblings
 unfoldable pub SiblingsWalked : (R : Rows) (orphan : Bool) (limit level parent root p n cap check : ℕ) (on on′ index index′ : List ℕ) (r : Progress) → Type 0
 SiblingsWalked R orphan limit level parent root p n cap check on on′ index index′ r =
-    (sibs : List ℕ) → Linked (R .next) (length (R .child)) p sibs → NodesWalked R orphan limit level parent root sibs n cap check on on′ index index′ r
+    (sibs : List ℕ) → NextChain (R .next) (length (R .child)) p sibs → NodesWalked R orphan limit level parent root sibs n cap check on on′ index index′ r
 
 -- the walk of what is below the row at p, which is the node of rank n + 1
 unfoldable pub BelowWalked : (R : Rows) (orphan : Bool) (limit level root p n cap check : ℕ) (on on′ index index′ : List ℕ) (r : Progress) → Type 0

@@ -1,151 +1,92 @@
-use mathlib.Core.Path.{_≡_, refl, ap, _∙_}
+use mathlib.Core.Path.{_≡_, refl, sym, ap, _∙_}
+use lib.ListN.{length-replicate}
+use Rattle.table.specs.TableLayer.{rowColumn}
+use Rattle.refusals.specs.TestsLaws.{capacity-bounds}
+use Rattle.assemble.specs.AssembledLaws.{nodes-over, nodes-fit, nodes-few, nodes-written, nodes-nine, nodes-finished, classes-of}
+use borrow.Author.Needs.{needs}
 use native.Mathlib.Omega.{arith}
-use Prim.Native.Nat.{ℕ}
-use lib.ListN.{length, replicate, length-replicate}
-use Rattle.refusals.specs.TestLaws.{capacity-bounds}
-use Rattle.assemble.specs.AssembledLaws.{marks-none, zeros-long, nodes-over, nodes-fit, nodes-few, nodes-written, nodes-nine, nodes-finished, classes-of}
+use Prim.Native.Nat.{ℕ, _-_}
+use lib.ListN.{length}
 use Rattle.assemble.proofs.write_nodes.Statement.{statement}
 use Rattle.assemble.proofs.write_nodes.Tie as tie
 
 enumerate-requires : tie.Need-enumerate-requires
 enumerate-requires c κs =
-    let s = c .before .before .before .before .before .before .before .before .before .before .before .before .before .before .before .before .before .before .before .before .before .before .before .before in
+    let s = c .before .before .before .before .before .before .before .before in
     let a = s .pre .0 in
     let q = s .pre .1 .0 in
-    let l = s .pre .1 .1 in
-    let z = l .3 in
-    let b = capacity-bounds (length (s .args .index .now)) (length (s .args .totals .now)) (q .2) in (
-      record { R = a .R; start = a .start; ready = a .ready; flags-are = a .flags-are },
-      (
-        (q .0, q .1, omega (arith, b, q .4), omega (arith, b, q .4)),
-        record { reached-clear = z .reached-clear; masked-long = z .masked-long; flags-long = l .0; keys-long = l .1; scratch-long = l .2; marks-long = zeros-long _ _ (z .marks-clear); marks-clear = marks-none (length (s .args .row .now)) _ (z .marks-clear) },
-      ),
-    )
+    let b = capacity-bounds (length (s .args .index .now)) (length (s .args .totals .now)) (q .2) in
+    (record { R = a .R; start = a .start; prepared = a .rows .prepared; flags-are = a .rows .flags-are; numbered = a .rows .numbered }, ((q .0, q .1, omega (arith, b, q .4), omega (arith, b, q .4)), s .pre .1 .1))
 
 refused-requires : tie.Need-refused-requires
-refused-requires c κs =
-    tt
+refused-requires c κs = search needs
 
 same-length : tie.Need-same-length
 same-length c =
-    c .before .before .before .before .before .before .before .before .before .before .before .before .before .before .child .given
+    c .before .before .before .before .before .before .before .before .before .before .table .given
 
 same-length-2 : tie.Need-same-length-2
 same-length-2 c =
-    c .before .before .before .before .before .before .before .before .before .before .before .before .next .given
+    c .before .before .before .before .before .before .before .before .reached .given
 
 same-length-3 : tie.Need-same-length-3
 same-length-3 c =
-    c .before .before .before .before .before .before .before .before .before .before .before .before .before .before .before .before .before .before .before .before .flags .given
+    c .before .before .before .before .before .before .marks .given
 
 same-length-4 : tie.Need-same-length-4
 same-length-4 c =
-    c .before .before .before .before .before .before .before .before .before .before .parent-keys .given
-
-same-length-5 : tie.Need-same-length-5
-same-length-5 c =
-    c .before .before .before .before .before .before .before .before .scratch .given
-
-same-length-6 : tie.Need-same-length-6
-same-length-6 c =
-    c .before .before .before .before .before .before .before .before .before .before .before .before .before .before .before .before .before .before .reached .given
-
-same-length-7 : tie.Need-same-length-7
-same-length-7 c =
-    c .before .before .before .before .before .before .before .before .before .before .before .before .before .before .before .before .masked .given
-
-same-length-8 : tie.Need-same-length-8
-same-length-8 c =
-    c .before .before .before .before .before .before .marks .given
-
-same-length-9 : tie.Need-same-length-9
-same-length-9 c =
     c .before .before .before .before .index .given
 
 returns : tie.Need-returns
 returns c =
-    let s = c .before .before .before .before .before .before .before .before .before .before .before .before .before .before .before .before .before .before .before .before .before .before .before .before .before .before .before .before .before .before .before .before .before .before .before .before .before .before .before .before .before .before .before .before .before .before in
+    let s = c .before .before .before .before .before .before .before .before .before .before .before .before .before .before .before .before .before .before .before .before in
     let q = s .pre .1 .0 in
-    λ R start code y f m e six seven eight.
+    λ R start code y e six seven eight.
     nodes-nine R code (s .args .depth) start _ _ _ _ (s .args .choice) e six seven eight _
-    (nodes-over R start (s .args .depth) _ _ _ _ (q .2) (q .3) (q .4) _ _ _ _ refl _ (c .before .before .before .before .before .before .before .before .before .before .before .before .before .before .before .before .before .before .before .before .before .enumerate .ensures R start y f) (c .before .if1 .taken)) (c .refused .ensures)
-
-clear-words-requires : tie.Need-clear-words-requires
-clear-words-requires c κs =
-    tt
-
-clear-words-requires-2 : tie.Need-clear-words-requires-2
-clear-words-requires-2 c κs =
-    tt
+    (nodes-over R start (s .args .depth) _ _ _ _ (q .2) (q .3) (q .4) _ _ _ _ refl _ (c .before .before .before .before .before .before .before .before .before .before .before .enumerate .ensures .0 R start (y .prepared) (y .flags-are) (y .numbered)) (c .before .if1 .taken)) (c .refused .ensures)
 
 finish-requires : tie.Need-finish-requires
 finish-requires c κs =
-    let s = c .before .before .before .before .before .before .before .before .before .before .before .before .before .before .before .before .before .before .before .before .before .before .before .before .before .before .before .before .before .before .before .before .before .before .before .before .before .before .before .before .before .before .before .before .before .before .before .before .before .before .before .before .before .before .before .before .before .before in
+    let s = c .before .before .before .before .before .before .before .before .before .before .before .before .before .before .before .before .before .before .before .before .before .before .before in
     let a = s .pre .0 in
     let q = s .pre .1 .0 in
-    let l = s .pre .1 .1 in
-    let z = l .3 in
-    let w = c .before .before .before .before .before .before .before .before .before .before .before .before .before .before .before .before .before .before .before .before .before .before .before .before .before .before .before .before .before .before .before .before .before .enumerate .ensures (a .R) (a .start) (a .ready) (a .flags-are) in
-    let n : ℕ = length (s .args .row .now) in
-    let long : length (s .args .reached .now) ≡ n = ap length (z .reached-clear) ∙ length-replicate {A = ℕ} n 0 in (
-      record { R = a .R; bs = _; before = _; written = nodes-written (a .R) (a .start) (s .args .depth) _ _ _ _ (q .2) (q .3) (q .4) _ _ _ _ refl _ w (c .before .before .before .before .before .before .before .before .before .before .before .before .before .if1 .left); classes = classes-of _ _ _ _ _ _ _ _ _ (a .ready); minutes-are = a .minutes-are },
-      (
-        c .before .before .before .before .before .before .before .before .before .before .before .clear-words .ensures ∙ ap (λ (k : ℕ). replicate {A = ℕ} k 0) (c .before .before .before .before .before .before .before .before .before .before .before .before .before .before .before .before .before .before .before .before .before .before .before .before .before .before .before .before .before .before .reached .given ∙ long),
-        c .before .before .before .before .before .before .before .before .before .before .before .before .before .before .before .before .before .before .before .before .before .before .before .before .before .before .before .before .masked .given ∙ z .masked-long,
-        c .before .before .before .before .before .before .before .clear-words2 .ensures ∙ ap (λ (k : ℕ). replicate {A = ℕ} k 0) (c .before .before .before .before .before .before .before .before .before .before .before .before .before .before .before .before .before .before .before .before .before .before .before .before .before .before .before .before .before .before .before .before .flags .given ∙ l .0),
-        nodes-few (a .R) (a .start) (s .args .depth) _ _ _ _ (q .2) (q .3) (q .4) _ _ _ _ refl _ w (c .before .before .before .before .before .before .before .before .before .before .before .before .before .if1 .left),
-      ),
+    let k = c .before .before .before .before .before .before .before .before .before .before .before .before .before .before .enumerate .ensures .1 in
+    let w = c .before .before .before .before .before .before .before .before .before .before .before .before .before .before .enumerate .ensures .0 (a .R) (a .start) (a .rows .prepared) (a .rows .flags-are) (a .rows .numbered) in
+    let n : ℕ = length (rowColumn (s .args .table .now)) in
+    let long : length (s .args .reached .now) ≡ n = ap length (s .pre .1 .1 .reached-clear) ∙ length-replicate {A = ℕ} n 0 in (
+      record { R = a .R; bs = _; before = _; written = nodes-written (a .R) (a .start) (s .args .depth) _ _ _ _ (q .2) (q .3) (q .4) _ _ _ _ refl _ w (c .before .before .before .before .if1 .left); classes = classes-of (a .R) _ _ (a .rows .prepared) k; minutes-are = a .rows .minutes-are },
+      (c .before .before .before .before .before .before .before .before .before .before .before .reached .given ∙ long ∙ sym (ap length (k .rows-same)), nodes-few (a .R) (a .start) (s .args .depth) _ _ _ _ (q .2) (q .3) (q .4) _ _ _ _ refl _ w (c .before .before .before .before .if1 .left)),
     )
 
-same-length-10 : tie.Need-same-length-10
-same-length-10 c =
-    c .before .before .before .before .before .before .before .before .before .before .before .before .before .before .before .before .before .before .before .before .before .before .before .before .before .before .before .before .before .before .before .before .before .before .before .before .child .given
+same-length-5 : tie.Need-same-length-5
+same-length-5 c =
+    c .before .before .before .before .before .before .table2 .given ∙ c .before .before .before .before .before .before .before .before .before .before .before .before .before .before .before .before .before .before .before .before .before .table .given
 
-same-length-11 : tie.Need-same-length-11
-same-length-11 c =
-    c .before .before .before .before .before .before .before .before .before .before .before .before .before .before .before .before .before .before .before .before .before .before .before .before .before .before .before .before .before .before .before .before .before .before .next .given
+same-length-6 : tie.Need-same-length-6
+same-length-6 c =
+    c .before .before .before .before .reached2 .given ∙ c .before .before .before .before .before .before .before .before .before .before .before .before .before .before .before .before .before .before .before .reached .given
 
-same-length-12 : tie.Need-same-length-12
-same-length-12 c =
-    c .before .before .before .before .flags3 .given ∙ c .before .before .before .before .before .before .before .before .before .before .before .before .before .before .before .before .flags2 .given ∙ c .before .before .before .before .before .before .before .before .before .before .before .before .before .before .before .before .before .before .before .before .before .before .before .before .before .before .before .before .before .before .before .before .before .before .before .before .before .before .before .before .before .before .flags .given
+same-length-7 : tie.Need-same-length-7
+same-length-7 c =
+    c .before .before .before .before .before .before .before .before .before .before .before .before .before .before .before .before .before .marks .given
 
-same-length-13 : tie.Need-same-length-13
-same-length-13 c =
-    c .before .before .before .before .before .before .before .before .before .before .before .before .before .before .before .before .before .before .before .before .before .before .before .before .before .before .before .before .before .before .before .before .parent-keys .given
+same-length-8 : tie.Need-same-length-8
+same-length-8 c =
+    c .before .before .index2 .given ∙ c .before .before .before .before .before .before .before .before .before .before .before .before .before .before .before .index .given
 
-same-length-14 : tie.Need-same-length-14
-same-length-14 c =
-    c .before .before .before .before .before .before .before .before .before .before .before .before .before .before .before .before .before .before .before .before .before .before .before .before .before .before .before .before .before .before .scratch .given
-
-same-length-15 : tie.Need-same-length-15
-same-length-15 c =
-    c .before .before .before .before .before .before .before .before .reached3 .given ∙ c .before .before .before .before .before .before .before .before .before .before .before .before .before .before .before .before .before .before .before .before .reached2 .given ∙ c .before .before .before .before .before .before .before .before .before .before .before .before .before .before .before .before .before .before .before .before .before .before .before .before .before .before .before .before .before .before .before .before .before .before .before .before .before .before .before .before .reached .given
-
-same-length-16 : tie.Need-same-length-16
-same-length-16 c =
-    c .before .before .before .before .before .before .masked2 .given ∙ c .before .before .before .before .before .before .before .before .before .before .before .before .before .before .before .before .before .before .before .before .before .before .before .before .before .before .before .before .before .before .before .before .before .before .before .before .before .before .masked .given
-
-same-length-17 : tie.Need-same-length-17
-same-length-17 c =
-    c .before .before .before .before .before .before .before .before .before .before .before .before .before .before .before .before .before .before .before .before .before .before .before .before .before .before .before .before .marks .given
-
-same-length-18 : tie.Need-same-length-18
-same-length-18 c =
-    c .before .before .index2 .given ∙ c .before .before .before .before .before .before .before .before .before .before .before .before .before .before .before .before .before .before .before .before .before .before .before .before .before .before .index .given
-
-same-length-19 : tie.Need-same-length-19
-same-length-19 c =
+same-length-9 : tie.Need-same-length-9
+same-length-9 c =
     c .totals .given
 
 returns-2 : tie.Need-returns-2
 returns-2 c =
-    let s = c .before .before .before .before .before .before .before .before .before .before .before .before .before .before .before .before .before .before .before .before .before .before .before .before .before .before .before .before .before .before .before .before .before .before .before .before .before .before .before .before .before .before .before .before .before .before .before .before .before .before .before .before .before .before .before .before .before .before .before .before .before .before .before .before .before .before .before .before in
+    let s = c .before .before .before .before .before .before .before .before .before .before .before .before .before .before .before .before .before .before .before .before .before .before .before .before .before .before .before .before .before .before .before in
     let q = s .pre .1 .0 in
-    λ R start code y f m e six seven eight.
-    let w = c .before .before .before .before .before .before .before .before .before .before .before .before .before .before .before .before .before .before .before .before .before .before .before .before .before .before .before .before .before .before .before .before .before .before .before .before .before .before .before .before .before .before .before .enumerate .ensures R start y f in
+    λ R start code y e six seven eight.
+    let w = c .before .before .before .before .before .before .before .before .before .before .before .before .before .before .before .before .before .before .before .before .before .before .enumerate .ensures .0 R start (y .prepared) (y .flags-are) (y .numbered) in
     nodes-finished R code (s .args .depth) start _ _ _ _ (s .args .choice) e six seven eight _
-    (nodes-fit R start (s .args .depth) _ _ _ _ (q .2) (q .3) (q .4) _ _ _ _ refl _ w (c .before .before .before .before .before .before .before .before .before .before .before .before .before .before .before .before .before .before .before .before .before .before .before .if1 .left))
-    (c .before .before .before .before .before .before .before .before .before .finish .ensures R _ _ (nodes-written R start (s .args .depth) _ _ _ _ (q .2) (q .3) (q .4) _ _ _ _ refl _ w (c .before .before .before .before .before .before .before .before .before .before .before .before .before .before .before .before .before .before .before .before .before .before .before .if1 .left)) (classes-of _ _ _ _ _ _ _ _ _ y) m)
+    (nodes-fit R start (s .args .depth) _ _ _ _ (q .2) (q .3) (q .4) _ _ _ _ refl _ w (c .before .before .before .before .before .before .before .before .before .before .before .before .if1 .left))
+    (c .before .before .before .before .before .before .before .finish .ensures R _ _ (nodes-written R start (s .args .depth) _ _ _ _ (q .2) (q .3) (q .4) _ _ _ _ refl _ w (c .before .before .before .before .before .before .before .before .before .before .before .before .if1 .left)) (classes-of R _ _ (y .prepared) (c .before .before .before .before .before .before .before .before .before .before .before .before .before .before .before .before .before .before .before .before .before .before .enumerate .ensures .1)) (y .minutes-are))
 
 pub write-nodes-spec : {M : Type 1} → statement M
 write-nodes-spec =
@@ -157,23 +98,11 @@ write-nodes-spec =
     same-length-2
     same-length-3
     same-length-4
+    returns
+    finish-requires
     same-length-5
     same-length-6
     same-length-7
     same-length-8
     same-length-9
-    returns
-    clear-words-requires
-    clear-words-requires-2
-    finish-requires
-    same-length-10
-    same-length-11
-    same-length-12
-    same-length-13
-    same-length-14
-    same-length-15
-    same-length-16
-    same-length-17
-    same-length-18
-    same-length-19
     returns-2)

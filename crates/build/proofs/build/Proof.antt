@@ -21,11 +21,11 @@ returns c =
     let w = c .before .before .before .before .before .attempt .ensures in
     (w .answer, (accepted-index _ _ _ _ _ _ _ _ _ w (c .if1 .taken), accepted-totals _ _ _ _ _ _ _ _ _ w (c .if1 .taken)))
 
-clear-words-requires : tie.Need-clear-words-requires
-clear-words-requires c κs = search needs
+clear-requires : tie.Need-clear-requires
+clear-requires c κs = search needs
 
-clear-totals-requires : tie.Need-clear-totals-requires
-clear-totals-requires c κs = search needs
+clear-i64-requires : tie.Need-clear-i64-requires
+clear-i64-requires c κs = search needs
 
 same-length-3 : tie.Need-same-length-3
 same-length-3 c = search needs
@@ -38,8 +38,8 @@ returns-2 c =
     let w = c .before .before .before .before .before .before .before .before .before .before .before .before .attempt .ensures in (
       w .answer,
       (
-        refused-index _ _ _ _ _ _ _ _ _ w (c .before .before .before .before .before .before .before .if1 .left) _ (c .before .before .before .before .before .clear-words .ensures ∙ ap (λ (k : ℕ). replicate {A = ℕ} k 0) (c .before .before .before .before .before .before .before .before .before .before .before .index .given)),
-        refused-totals _ _ _ _ _ _ _ _ _ w (c .before .before .before .before .before .before .before .if1 .left) _ (c .before .clear-totals .ensures ∙ ap (λ (k : ℕ). replicate {A = ℤ} k (pos 0)) (c .before .before .before .before .before .before .before .before .before .totals .given)),
+        refused-index _ _ _ _ _ _ _ _ _ w (c .before .before .before .before .before .before .before .if1 .left) _ (c .before .before .before .before .before .clear .ensures ∙ ap (λ (k : ℕ). replicate {A = ℕ} k 0) (c .before .before .before .before .before .before .before .before .before .before .before .index .given)),
+        refused-totals _ _ _ _ _ _ _ _ _ w (c .before .before .before .before .before .before .before .if1 .left) _ (c .before .clear-i64 .ensures ∙ ap (λ (k : ℕ). replicate {A = ℤ} k (pos 0)) (c .before .before .before .before .before .before .before .before .before .totals .given)),
       ),
     )
 
@@ -51,8 +51,8 @@ build-spec =
     same-length
     same-length-2
     returns
-    clear-words-requires
-    clear-totals-requires
+    clear-requires
+    clear-i64-requires
     same-length-3
     same-length-4
     returns-2)
