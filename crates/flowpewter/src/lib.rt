@@ -6,9 +6,7 @@ ghost use Rattle.navigate.specs.Navigate.{descendantsAnswer, descendantsOut, si
 ghost use Rattle.navigate.specs.Climb.{ancestorsAnswer, ancestorsOut};
 ghost use Rattle.sums.specs.Sums.{subtreeAnswer, pathAnswer};
 ghost use Rattle.index_check.specs.IndexCheck.{accepts};
-ghost use Rattle.options.specs.declared.Depth.the-variants.{None};
-ghost use Rattle.paths.specs.Rows.{parentZero};
-ghost use Rattle.request.specs.Build.{startRule, builtOf, indexAfter, totalsAfter};
+ghost use Rattle.request.specs.Build.{startRule, builtOf, indexAfter, totalsAfter, defaultCode, defaultDepth, defaultStart};
 ghost use Rattle.history.specs.Encoding.{replayedOf, refusalsOf};
 ghost use Rattle.flowpewter.specs.Spans.{spanOf};
 ghost use Rattle.flowpewter.specs.Requests.{depthOf, startOf};
@@ -126,9 +124,9 @@ pub extern "C" fn flowpewter_build_default(
     index: &mut [u32],
     totals: &mut [i64],
 ) -> Built
-    ensures { λ r. ⌜ r ≡ builtOf board 0 None parentZero (length (now (index .entry))) (length (now (totals .entry))) ⌝ }
-    ensures { λ _. ⌜ now (index .exit) ≡ indexAfter board 0 None parentZero (now (index .entry)) (length (now (totals .entry))) ⌝ }
-    ensures { λ _. ⌜ now (totals .exit) ≡ totalsAfter board 0 None parentZero (length (now (index .entry))) (now (totals .entry)) ⌝ }
+    ensures { λ r. ⌜ r ≡ builtOf board defaultCode defaultDepth defaultStart (length (now (index .entry))) (length (now (totals .entry))) ⌝ }
+    ensures { λ _. ⌜ now (index .exit) ≡ indexAfter board defaultCode defaultDepth defaultStart (now (index .entry)) (length (now (totals .entry))) ⌝ }
+    ensures { λ _. ⌜ now (totals .exit) ≡ totalsAfter board defaultCode defaultDepth defaultStart (length (now (index .entry))) (now (totals .entry)) ⌝ }
 {
     build::build_default(board, index, totals)
 }

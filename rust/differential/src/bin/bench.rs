@@ -41,6 +41,11 @@ fn cyclic() -> Vec<Row> {
     rows
 }
 
+/// Every row a root with nothing below.
+fn leaves() -> Vec<Row> {
+    (1..=1_024).map(|number| Row::new(0, number, 1, 1)).collect()
+}
+
 fn small() -> Vec<Row> {
     (1..=10).map(|number| Row::new(number / 2, number, 1, 1)).collect()
 }
@@ -77,22 +82,22 @@ fn print(job: &str, work: &str, (library, rust): (f64, f64)) {
 }
 
 /// Answers the library's time in microseconds.
-fn builds(job: &str, rows: &[Row], rounds: u32) -> f64 {
+fn builds(job: &str, rows: &[Row], code: u32, rounds: u32) -> f64 {
     let board = board(rows);
     let mut index = vec![0; index_len(MAX_NODES)];
     let mut totals = vec![0; totals_len(MAX_NODES)];
     let (mut other, mut others) = (index.clone(), totals.clone());
-    let built = sys::build(&board, 0, None, None, &mut index, &mut totals);
-    let expected = baseline::build(&board, 0, None, None, &mut other, &mut others);
+    let built = sys::build(&board, code, None, None, &mut index, &mut totals);
+    let expected = baseline::build(&board, code, None, None, &mut other, &mut others);
     assert_eq!(built, expected);
     assert!(index == other && totals == others);
     let times = race(
         rounds,
         || {
-            black_box(sys::build(black_box(&board), 0, None, None, &mut index, &mut totals));
+            black_box(sys::build(black_box(&board), code, None, None, &mut index, &mut totals));
         },
         || {
-            black_box(baseline::build(black_box(&board), 0, None, None, &mut other, &mut others));
+            black_box(baseline::build(black_box(&board), code, None, None, &mut other, &mut others));
         },
     );
     print(job, &format!("{} rows, {} nodes", rows.len(), built.nodes), times);
@@ -181,11 +186,13 @@ fn queries(job: &str, rows: &[Row], library: f64) {
 fn main() {
     println!("| job | work | library, µs | Rust, µs | library / Rust |");
     println!("|---|---|---|---|---|");
-    let wide_time = builds("build, wide", &wide(), 1);
-    let tree_time = builds("build, tree", &tree(), 20);
-    builds("build, chain", &chain(), 20);
-    builds("build, cyclic", &cyclic(), 20);
-    builds("build, small", &small(), 200);
+    let wide_time = builds("build, wide", &wide(), 0, 1);
+    let tree_time = builds("build, tree", &tree(), 0, 20);
+    builds("build, tree, orphans as roots", &tree(), 3, 20);
+    builds("build, chain", &chain(), 0, 20);
+    builds("build, leaf roots", &leaves(), 0, 20);
+    builds("build, cyclic", &cyclic(), 0, 20);
+    builds("build, small", &small(), 0, 200);
     edits("room in the journal", 100);
     edits("full journal", 256);
     navigation();
