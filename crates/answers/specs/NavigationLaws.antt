@@ -12,8 +12,8 @@ use lib.Signed.{mag, leZ, _≤ℤ_}
 use Rattle.lists.specs.Members.{_∈_, filter-out}
 use Rattle.image.specs.declared.Body.{Body}
 use Rattle.image.specs.Layout.{levelAt}
-use Rattle.image.specs.ImageLaws.{Holds}
-use Rattle.navigate.specs.Navigate.{within, distance}
+use Rattle.image.specs.ImageLayer.{HoldsImage}
+use Rattle.navigate.specs.Navigate.{within, rankDistance}
 use Rattle.navigate.specs.Climb.{chain, ancestorList, ancestorsAnswer}
 use Rattle.sums.specs.HeldLaws.{HoldsTotals}
 use Rattle.forest.specs.Nodes.{nodeAt, begins, falling}
@@ -40,7 +40,7 @@ not-first : {S : Type 0} {n : ℕ} {later : ℕ → Type 0} {q : ℕ} → First 
 not-first (applies s e) d = absurd (d e)
 not-first (otherwise d l) e = d
 
-module _ {W : List (List ℕ)} (g : Forest W) {bs : List Body} (b : Described W bs) (short : (p : List ℕ) → p ∈ W → length p < 65536) (small : length W ≤ 65535) {s : List ℕ} (h : Holds s bs) where
+module _ {W : List (List ℕ)} (g : Forest W) {bs : List Body} (b : Described W bs) (short : (p : List ℕ) → p ∈ W → length p < 65536) (small : length W ≤ 65535) {s : List ℕ} (h : HoldsImage s bs) where
   pub navigation-here : (minutes : List ℕ → ℤ) (fits : Type 0) → (fits → (p : List ℕ) → p ∈ W → mag (minutes p) < 2147483648) → {t : List ℤ} → HoldsTotals minutes W t → Navigation minutes W fits s t
   navigation-here minutes fits fit k = record {
     descendants = descendants-here g b short small h;
@@ -58,9 +58,9 @@ module _ {W : List (List ℕ)} (g : Forest W) {bs : List Body} (b : Described W 
     level = level-here g b short h rank (in-list .0) (in-list .1)
 
     -- every ancestor begins the node
-    distance-here : (k : ℕ) → k ∈ ancestorList s rank lower upper → distance s rank k ≤ℤ pos 0
+    distance-here : (k : ℕ) → k ∈ ancestorList s rank lower upper → rankDistance s rank k ≤ℤ pos 0
     distance-here k m =
-        let c = filter-out (λ k. within lower upper (distance s rank k)) (chain s rank) k m .0 in
+        let c = filter-out (λ k. within lower upper (rankDistance s rank k)) (chain s rank) k m .0 in
         let o = filter-out (λ i. begins (nodeAt W i) (nodeAt W rank)) (falling (length W)) k (subst (λ l. k ∈ l) (chain-here g b short small h rank (in-list .0) (in-list .1)) c) in
         let i = falling-out (length W) k (o .0) in
         at-most-zero (levelAt s k) (levelAt s rank) (omega (arith, level, level-here g b short h k (i .0) (i .1), begins-length (nodeAt W k) (nodeAt W rank) (o .1)))

@@ -14,7 +14,7 @@ use Rattle.lists.specs.Choice.{after}
 use Rattle.lists.specs.Members.{_∈_, is-false, any, any-out, sum, sum-slice, filter-out}
 use Rattle.image.specs.declared.Body.{Body}
 use Rattle.image.specs.Layout.{bodyOf}
-use Rattle.image.specs.ImageLaws.{Holds}
+use Rattle.image.specs.ImageLayer.{HoldsImage}
 use Rattle.navigate.specs.Navigate.{rankRefusal}
 use Rattle.navigate.specs.HeldLaws.{noRank}
 use Rattle.navigate.specs.Climb.{chain}
@@ -43,7 +43,7 @@ sum-agree : {A : Type 0} (f g : A → ℤ) (l : List A) → ((x : A) → x ∈ l
 sum-agree f g [] h = refl
 sum-agree f g (x ∷ l) h = ap₂ _+ℤ_ (h x (inl refl)) (sum-agree f g l (λ y m. h y (inr m)))
 
-module _ {W : List (List ℕ)} (g : Forest W) {bs : List Body} (b : Described W bs) (short : (p : List ℕ) → p ∈ W → length p < 65536) (small : length W ≤ 65535) {s : List ℕ} (h : Holds s bs)
+module _ {W : List (List ℕ)} (g : Forest W) {bs : List Body} (b : Described W bs) (short : (p : List ℕ) → p ∈ W → length p < 65536) (small : length W ≤ 65535) {s : List ℕ} (h : HoldsImage s bs)
     (minutes : List ℕ → ℤ) (fit : (p : List ℕ) → p ∈ W → mag (minutes p) < 2147483648) {t : List ℤ} (k : HoldsTotals minutes W t) where
   -- own minutes are those of the node
   module _ (r : ℕ) (low : 1 ≤ r) (high : r ≤ length W) where

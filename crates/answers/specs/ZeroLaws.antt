@@ -10,7 +10,7 @@ use Rattle.lists.specs.Choice.{after}
 use Rattle.image.specs.Layout.{badContents}
 use Rattle.navigate.specs.Navigate.{badRank, badSpan, endOf, rankRefusal, spanRefusal, descendantList, siblingList, listAnswer, listOut}
 use Rattle.navigate.specs.Climb.{chain, badClimb, climbRefusal, ancestorList, climbAnswer}
-use Rattle.sums.specs.Sums.{totalAt, fewTotals, totalsRefusal, beyond, sumAnswer, subtreeSum, badPath, pathSum}
+use Rattle.sums.specs.Sums.{totalAt, fewTotals, totalsRefusal, beyond, sumAnswer, spanSum, badPath, pathSum}
 use Rattle.answers.specs.Answers.{RefusedNavigation}
 
 or-yes : (a : Bool) → a || true ≡ true
@@ -45,7 +45,7 @@ module _ (n : ℕ) where
     ancestors = λ rank lower upper out. let l : List ℕ = ancestorList zeros rank lower upper in (ap (λ q. climbAnswer q (chain zeros rank) l out) (climb-13 rank), ap (λ q. listOut q l out) (climb-13 rank));
     siblings = λ rank out. let l : List ℕ = siblingList zeros rank in (ap (λ q. listAnswer q l out) (rank-13 rank), ap (λ q. listOut q l out) (rank-13 rank));
     subtree-sums = λ rank. let far : ℕ = cond (beyond (totalAt t (endOf zeros rank)) || beyond (totalAt t (rank - 1))) 15 0 in
-        ap (λ q. sumAnswer (after (after q (spanRefusal zeros rank)) far) (subtreeSum zeros t rank)) (totals-13 t);
+        ap (λ q. sumAnswer (after (after q (spanRefusal zeros rank)) far) (spanSum zeros t rank)) (totals-13 t);
     path-sums = λ rank. let far : ℕ = cond (badPath zeros t rank) 15 0 in
         ap (λ q. sumAnswer (after (after q (rankRefusal zeros rank)) far) (pathSum zeros t rank)) (totals-13 t);
   }

@@ -19,7 +19,8 @@ use Rattle.lists.specs.Counting.{by-place, by-place-length}
 use Rattle.board.specs.declared.Row.{Row}
 use Rattle.image.specs.declared.Body.{Body}
 use Rattle.image.specs.Layout.{rowAt, closingAt, bodyOf, flat, checked, contentsWords, imageWords}
-use Rattle.image.specs.ImageLaws.{Holds, holds-front, image-written, row-read, size-read, closing-read}
+use Rattle.image.specs.ImageLaws.{holds-front, image-written, row-read, size-read, closing-read}
+use Rattle.image.specs.ImageLayer.{HoldsImage}
 use Rattle.options.specs.declared.Choice.{Choice}
 use Rattle.paths.specs.Forest.{memb}
 use Rattle.paths.specs.ForestLaws.{eq→eqb}
@@ -296,7 +297,7 @@ module _ {R : List Row} {bs : List Body} {before index : List ℕ} {progress : P
       record {
         count-is = w .count-is;
         few = w .few;
-        holds = subst (λ (x : List ℕ). Holds x bs) (sym (front-held index′ e)) (holds-front bs before);
+        holds = subst (λ (x : List ℕ). HoldsImage x bs) (sym (front-held index′ e)) (holds-front bs before);
         row-of = w .row-of;
         numeral-of = w .numeral-of;
       }

@@ -13,7 +13,7 @@ use Rattle.lists.specs.Stores.{front}
 use Rattle.board.specs.declared.Row.{Row}
 use Rattle.image.specs.declared.Body.{Body}
 use Rattle.image.specs.Layout.{flat, checked, imageWords}
-use Rattle.image.specs.ImageLaws.{Holds}
+use Rattle.image.specs.ImageLayer.{HoldsImage}
 use Rattle.options.specs.declared.Choice.{Choice}
 use Rattle.paths.specs.Forest.{memb}
 use Rattle.paths.specs.Rows.{row as boardRow, num, RowOf}
@@ -55,7 +55,7 @@ pub record AnyNodesWritten (t : List ℕ) (minutes : List ℤ) (index : List ℕ
 pub record NodesHeld (R : List Row) (bs : List Body) (index : List ℕ) (n : ℕ) : Type 0 where
   pub count-is : n ≡ length bs
   pub few : length bs ≤ 65535
-  pub holds : Holds index bs
+  pub holds : HoldsImage index bs
   pub row-of : (b : Body) → b ∈ bs → RowOf R (b .row)
   pub numeral-of : (b : Body) → b ∈ bs → b .numeral ≡ num R (b .row)
 

@@ -13,7 +13,8 @@ use Rattle.board.specs.declared.Row.{Row}
 use Rattle.options.specs.declared.Depth.{Depth}
 use Rattle.image.specs.declared.Body.{Body}
 use Rattle.image.specs.Layout.{bodyOf}
-use Rattle.image.specs.ImageLaws.{Holds, body-read}
+use Rattle.image.specs.ImageLaws.{body-read}
+use Rattle.image.specs.ImageLayer.{HoldsImage}
 use Rattle.paths.specs.Rows.{num}
 use Rattle.paths.specs.Paths.{last, closes, Orphan, Regular, OrphanNode}
 use Rattle.paths.specs.Nodes.{regular, orphanNodes, nodes}
@@ -115,7 +116,7 @@ module _ (R : List Row) (starts : Row → Bool) (depth : Depth) (o : Orphan) whe
   short few p m = omega (arith, node-bounded R starts depth o p (nodes-are R starts depth o p .0 m))
 
   -- and is what the words of an index say
-  module _ {s : List ℕ} (h : Holds s (bodies R starts depth o)) (few : length R ≤ 1024) (k : ℕ) (low : 1 ≤ k) (high : k ≤ length (nodes R starts depth o)) where
+  module _ {s : List ℕ} (h : HoldsImage s (bodies R starts depth o)) (few : length R ≤ 1024) (k : ℕ) (low : 1 ≤ k) (high : k ≤ length (nodes R starts depth o)) where
     pub body-here : (d : Body) → bodyOf s k ≡ getD (bodies R starts depth o) (k - 1) d
     body-here d =
         let l = bodies-length R starts depth o in

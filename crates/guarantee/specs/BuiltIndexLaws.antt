@@ -16,7 +16,8 @@ use Rattle.options.specs.declared.Depth.{Depth}
 use Rattle.options.specs.Options.{orphanOf}
 use Rattle.image.specs.declared.Body.{Body}
 use Rattle.image.specs.Layout.{imageWords}
-use Rattle.image.specs.ImageLaws.{Holds, holds-front}
+use Rattle.image.specs.ImageLaws.{holds-front}
+use Rattle.image.specs.ImageLayer.{HoldsImage}
 use Rattle.paths.specs.Paths.{Orphan}
 use Rattle.forest.specs.ForestLaws.{Closed}
 use Rattle.paths.specs.Nodes.{nodes}
@@ -57,10 +58,10 @@ module _ (b : Board) (code : ℕ) (depth : Depth) (starts : Row → Bool) (index
   r : Unrefused R code depth starts few index totals
   r = unrefused R code depth starts few index totals (parts .1)
 
-  held : Holds (indexAfter b code depth starts index (length totals)) bs
+  held : HoldsImage (indexAfter b code depth starts index (length totals)) bs
   unfolding builtOf indexAfter
   held =
-      subst (λ t. Holds (cond t (front (imageWords bs) index) (replicate (length index) 0)) bs) (sym (eq-eqb (buildRefusal b code depth starts (length index) (length totals)) 0 accepted))
+      subst (λ t. HoldsImage (cond t (front (imageWords bs) index) (replicate (length index) 0)) bs) (sym (eq-eqb (buildRefusal b code depth starts (length index) (length totals)) 0 accepted))
       (holds-front bs index)
 
   closed : Closed (nodes R starts depth o)

@@ -23,7 +23,8 @@ use Rattle.options.specs.declared.Depth.{Depth}
 use Rattle.options.specs.declared.Depth.the-variants.{None, Limit}
 use Rattle.options.specs.Options.{orphanOf}
 use Rattle.image.specs.Layout.{imageWords}
-use Rattle.image.specs.ImageLaws.{Holds, holds-front, bodies-read}
+use Rattle.image.specs.ImageLaws.{holds-front, bodies-read}
+use Rattle.image.specs.ImageLayer.{HoldsImage}
 use Rattle.paths.specs.Forest.{memb}
 use Rattle.paths.specs.Paths.{last, Orphan}
 use Rattle.paths.specs.Nodes.{nodes}
@@ -103,7 +104,7 @@ module _ (R : List Row) (code : ℕ) (depth : Depth) (starts : Row → Bool) whe
     unfolding leftOf
     left-length = refl
 
-    held : Holds (indexBy true) (bodies R starts depth o)
+    held : HoldsImage (indexBy true) (bodies R starts depth o)
     held = holds-front (bodies R starts depth o) index
 
     running : HoldsTotals (minutesOf R) W (totalsBy true)

@@ -20,7 +20,8 @@ use Rattle.options.specs.declared.Depth.{Depth}
 use Rattle.options.specs.declared.Depth.the-variants.{None, Limit}
 use Rattle.options.specs.Options.{levelLimit}
 use Rattle.image.specs.Layout.{badContents, bodyWords, flat, checked, contentsWords, imageWords, bodyOf, bodiesOf}
-use Rattle.image.specs.Sample.{listing, listingTotals, listing-words}
+use Rattle.image.specs.Sample.{listing, listingTotals}
+use Rattle.image.specs.SampleCases.{listing-words}
 use Rattle.paths.specs.Forest.{forest}
 use Rattle.paths.specs.Rows.{parentZero}
 use Rattle.paths.specs.Nodes.{sorted, starts, regular, orphanRows, tops, orphans, orphanNodes, nodes}

@@ -12,7 +12,8 @@ use lib.Seq.{take-append-seam}
 use borrow.Author.Tests.{eq-eqb, ne-eqb, le-leb}
 use Rattle.lists.specs.Ranges.{all-of, largest-here, largest-below}
 use Rattle.image.specs.Layout.{nodeCount, sizeAt, parentAt, rootAt, wordAt, levelAt, packed, flat, checked, contentsWords, imageWords, bodyOf, badContents}
-use Rattle.image.specs.ImageLaws.{HoldsImage, node-count-read, contents-read, contents-hold, word-packed, length-flat}
+use Rattle.image.specs.ImageLaws.{node-count-read, contents-read, contents-hold, word-packed, length-flat}
+use Rattle.image.specs.ImageLayer.{HoldsImage}
 use Rattle.image.specs.declared.Body.{Body}
 use Rattle.navigate.specs.Navigate.{endOf}
 use Rattle.index_check.specs.IndexCheck.{contains, parentOf, zerosRight, checkRight, sizeRight, endRight, parentRight, levelRight, rootRight, bitsRight, rankRight, accepts}

@@ -11,7 +11,8 @@ use borrow.Author.Tests.{eqb-false, ltb-false, ne-eqb, le-ltb}
 use Rattle.lists.specs.Choice.{or-no}
 use Rattle.lists.specs.Members.{_∈_, getD-in, filter, filter-agree, numbers, numbers-out}
 use Rattle.image.specs.Layout.{nodeCount, sizeAt, levelAt}
-use Rattle.image.specs.ImageLaws.{HoldsImage, node-count-read, contents-hold, size-read, level-read}
+use Rattle.image.specs.ImageLaws.{node-count-read, contents-hold, size-read, level-read}
+use Rattle.image.specs.ImageLayer.{HoldsImage}
 use Rattle.image.specs.declared.Body.{Body}
 use Rattle.navigate.specs.Navigate.{badRank, badSpan, endOf, rankRefusal, spanRefusal, within, rankDistance, descendantList}
 

@@ -13,7 +13,8 @@ use borrow.Author.Tests.{eqb-false, ltb-false, le-ltb}
 use Rattle.lists.specs.Choice.{or-no, after}
 use Rattle.lists.specs.Members.{_∈_, sum, totalsFrom, sum-slice, totals-length, totals-at, sum-bound, take-in}
 use Rattle.image.specs.Layout.{nodeCount}
-use Rattle.image.specs.ImageLaws.{HoldsImage, node-count-read, contents-hold, size-read}
+use Rattle.image.specs.ImageLaws.{node-count-read, contents-hold, size-read}
+use Rattle.image.specs.ImageLayer.{HoldsImage}
 use Rattle.image.specs.declared.Body.{Body}
 use Rattle.navigate.specs.Navigate.{endOf, spanRefusal}
 use Rattle.navigate.specs.HeldLaws.{nth, Sized, noRank, span-held}
