@@ -71,7 +71,8 @@ fn share_children(table: &mut [u32])
     let n = table::rows(table) as u32;
     let mut p = 0;
     while p < n {
-        let first = table::child(table, table::class(table, p));
+        let c = table::class(table, p);
+        let first = table::child(table, c);
         table::set_child(table, p, first);
         p += 1;
     }

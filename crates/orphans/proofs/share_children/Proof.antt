@@ -47,26 +47,26 @@ child-requires c κs = search needs
 -- src/lib.rt:75:9
 set-child-requires : tie.Need-set-child-requires Inv-loop μ-loop
 set-child-requires c κs =
-    let t = c .before .before .before .before .before .before .before .before .before .args .table .now in
-    omega (arith, c .before .before .before .before .loop-test .taken, c .before .before .before .before .before .before .rows .ensures 0, column-length 0 t, column-length 3 (c .before .before .before .before .before .loop .table), c .before .before .before .before .before .loop .inv .0 .long)
+    let t = c .before .before .before .before .before .before .before .before .before .before .args .table .now in
+    omega (arith, c .before .before .before .before .before .loop-test .taken, c .before .before .before .before .before .before .before .rows .ensures 0, column-length 0 t, column-length 3 (c .before .before .before .before .before .before .loop .table), c .before .before .before .before .before .before .loop .inv .0 .long)
 
 -- src/lib.rt:76:9
 add-p : tie.Need-add-p Inv-loop μ-loop
 add-p c =
-    omega (arith, c .before .before .before .before .before .before .before .loop-test .taken, c .before .before .before .before .before .before .before .before .before .rows .ensures 0, c .before .before .before .before .before .before .before .before .before .before .before .before .pre .few, column-length 0 (c .before .before .before .before .before .before .before .before .before .before .before .before .args .table .now))
+    omega (arith, c .before .before .before .before .before .before .before .before .loop-test .taken, c .before .before .before .before .before .before .before .before .before .before .rows .ensures 0, c .before .before .before .before .before .before .before .before .before .before .before .before .before .pre .few, column-length 0 (c .before .before .before .before .before .before .before .before .before .before .before .before .before .args .table .now))
 
 -- src/lib.rt:73:5
 loop-less : tie.Need-loop-less Inv-loop μ-loop
 loop-less c =
-    omega (arith, c .before .before .before .before .before .before .before .loop-test .taken)
+    omega (arith, c .before .before .before .before .before .before .before .before .loop-test .taken)
 
 -- src/lib.rt:73:5
 loop-again : tie.Need-loop-again Inv-loop μ-loop
 loop-again c =
-    let t = c .before .before .before .before .before .before .before .before .before .before .before .before .args .table .now in
-    let lt : c .before .before .before .before .before .before .before .before .loop .p < length t / 8 = omega (arith, c .before .before .before .before .before .before .before .loop-test .taken, c .before .before .before .before .before .before .before .before .before .rows .ensures 0, column-length 0 t) in
-    let value = shared-value _ _ _ _ _ (c .before .before .before .before .before .before .before .before .before .before .before .before .pre) lt (c .before .before .before .before .before .class .ensures) (c .before .before .before .before .child .ensures) (c .before .before .before .before .before .before .before .before .loop .inv .0) in
-    (filled-step 3 _ _ _ _ _ _ lt value (c .before .before .set-child .ensures) (c .before .before .before .before .before .before .before .before .loop .inv .0), omega arith)
+    let t = c .before .before .before .before .before .before .before .before .before .before .before .before .before .args .table .now in
+    let lt : c .before .before .before .before .before .before .before .before .before .loop .p < length t / 8 = omega (arith, c .before .before .before .before .before .before .before .before .loop-test .taken, c .before .before .before .before .before .before .before .before .before .before .rows .ensures 0, column-length 0 t) in
+    let value = shared-value _ _ _ _ _ (c .before .before .before .before .before .before .before .before .before .before .before .before .before .pre) lt (c .before .before .before .before .before .before .class .ensures) (c .before .before .before .before .child .ensures) (c .before .before .before .before .before .before .before .before .before .loop .inv .0) in
+    (filled-step 3 _ _ _ _ _ _ lt value (c .before .before .set-child .ensures) (c .before .before .before .before .before .before .before .before .before .loop .inv .0), omega arith)
 
 -- src/lib.rt:67:1
 same-length : tie.Need-same-length Inv-loop μ-loop
