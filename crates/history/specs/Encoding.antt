@@ -5,9 +5,8 @@ use mathlib.Core.List.{List, [], _∷_, _++_}
 use lib.ListN.{length, getD}
 use lib.Dec.{eqb, leb, ltb}
 use mir.Syntax.{w32}
-use mir.Val.{toZ, ofZ, SFits}
-use Rattle.lists.specs.Members.{flatMap}
-use Rattle.lists.specs.Stores.{front}
+use mir.Val.{toZ}
+use Rattle.lists.specs.Lists.{front}
 use Rattle.board.specs.Edits.{emptyOf}
 use Rattle.history.specs.declared.Call.{Call}
 use Rattle.history.specs.declared.Call.the-variants.{Add, Withdraw, Remark, Undo}
@@ -36,27 +35,6 @@ firstCalls words (suc n) = firstCalls words n ++ (callAt words n ∷ [])
 
 abbrev pub decoded : List ℕ → List Call
 decoded words = firstCalls words (length words / 5)
-
--- the words of a list of calls
-abbrev pub wordsOf : Call → List ℕ
-wordsOf (Add r) = 0 ∷ r .parent ∷ r .numeral ∷ r .order ∷ ofZ w32 (r .minutes) ∷ []
-wordsOf (Withdraw k) = 1 ∷ k ∷ 0 ∷ 0 ∷ 0 ∷ []
-wordsOf (Remark k minutes) = 2 ∷ k ∷ ofZ w32 minutes ∷ 0 ∷ 0 ∷ []
-wordsOf Undo = 3 ∷ 0 ∷ 0 ∷ 0 ∷ 0 ∷ []
-
-abbrev pub encoded : List Call → List ℕ
-encoded calls = flatMap wordsOf calls
-
--- minutes are an i32
-abbrev pub MinutesFit : Call → Type 0
-MinutesFit (Add r) = SFits w32 (r .minutes)
-MinutesFit (Withdraw k) = Unit {0}
-MinutesFit (Remark k minutes) = SFits w32 minutes
-MinutesFit Undo = Unit {0}
-
-abbrev pub AllFit : List Call → Type 0
-AllFit [] = Unit {0}
-AllFit (c ∷ cs) = MinutesFit c × AllFit cs
 
 -- each of the first n calls has a known kind
 abbrev pub allKnown : List ℕ → ℕ → Bool

@@ -1,9 +1,10 @@
 pub mod Machine
 pub mod Calls
-pub mod States
-pub mod Steps
 pub mod Simulation
 pub mod Encoding
-pub mod Replays
-pub mod Encoded
-pub mod Undone
+pub mod StateLaws
+pub mod StepLaws
+pub mod SimulationLaws
+pub mod ReplayLaws
+pub mod EncodedLaws
+pub mod UndoLaws

@@ -4,7 +4,7 @@ use mathlib.Core.Bool.{cond}
 use mathlib.Core.List.{List, [], _∷_, _++_}
 use lib.ListN.{length, take, getD, set}
 use lib.Dec.{eqb, leb}
-use Rattle.lists.specs.Moves.{without}
+use Rattle.lists.specs.Lists.{without}
 use Rattle.board.specs.declared.Row.{Row}
 use Rattle.board.specs.Journal.{blank}
 use Rattle.board.specs.Edits.{noRow, remarked}

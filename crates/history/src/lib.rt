@@ -4,7 +4,7 @@ ghost use Prim.Native.Nat.{_*_, _≤_};
 ghost use lib.ListN.{length};
 ghost use mir.Syntax.{w32};
 ghost use mir.Val.{toZ};
-ghost use Rattle.lists.specs.Stores.{front};
+ghost use Rattle.lists.specs.Lists.{front};
 ghost use Rattle.board.specs.Edits.{emptyOf};
 ghost use Rattle.history.specs.Calls.{edit, edits, final};
 ghost use Rattle.history.specs.Encoding.{callOf, callAt, firstCalls, allKnown, replayRefusal, replayedOf, refusalsOf};

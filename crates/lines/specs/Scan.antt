@@ -78,17 +78,3 @@ carry Bad k i = found.Bad
 unfoldable pub nextOf : Scan → ℕ → List ℕ → Found
 nextOf p i [] = found.More p
 nextOf p i (b ∷ bs) = carry (stepOf p b) (λ q. nextOf q (i + 1) bs) (i + 1)
-
-abbrev pub onward : Step → (Scan → Step) → Step
-onward (More q) k = k q
-onward (Row a n o m) k = Row a n o m
-onward Bad k = Bad
-
--- the scan of some bytes, after which the line ends
-abbrev pub scanned : Scan → List ℕ → Step
-scanned p [] = finishOf p
-scanned p (b ∷ s) = onward (stepOf p b) (λ q. scanned q s)
-
--- the scan of a whole line, without its newline
-abbrev pub lineOf : List ℕ → Step
-lineOf s = scanned fresh s

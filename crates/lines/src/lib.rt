@@ -183,7 +183,7 @@ impl Scan {
     }
 
     // One more byte of the text.
-    pub fn step(self, b: u8) -> Step
+    fn step(self, b: u8) -> Step
         ensures { λ r. ⌜ r ≡ stepOf self b ⌝ }
     {
         if b == 10 {

@@ -1,7 +1,7 @@
 -- What a load becomes, branch by branch, as `enter`, `end` and `feed` tell the branches apart. Assumes nothing.
 use Prim.Native.Nat.{ℕ, _+_, _%_, _≤_, _<_}
-use mathlib.Core.Path.{_≡_, refl, sym, ap, ap₂, _∙_}
-use mathlib.Core.Bool.{Bool, true, false, cond}
+use mathlib.Core.Path.{_≡_, sym, ap, ap₂, subst, _∙_}
+use mathlib.Core.Bool.{Bool, true, false}
 use mathlib.Core.List.{List}
 use lib.IntN.{ℤ}
 use lib.ListN.{length, drop, drop-of-length-le}
@@ -15,10 +15,11 @@ use Rattle.lines.specs.declared.Step.the-variants as step
 use Rattle.lines.specs.declared.Found.{Found}
 use Rattle.lines.specs.declared.Found.the-variants as found
 use Rattle.lines.specs.Scan.{fresh, blankOf, finishOf, nextOf}
-use Rattle.lines.specs.Text.{values, takenOf}
-use Rattle.lines.specs.Chunks.{onFound, next-taken, next-later}
-use Rattle.listing.specs.Whole.{feed-stopped}
-use Rattle.listing.specs.Loading.{startOf, stopped, rowOf, enterOf, goesOn, isBad, absorb, feedOf, lastOf, endOf}
+use Rattle.lines.specs.Text.{values}
+use Rattle.lines.specs.ReadingLaws.{Settled, finish-settled}
+use Rattle.lines.specs.TextLaws.{takenOf, onFound, next-taken, next-later}
+use Rattle.listing.specs.OutcomeLaws.{absorb, feed-stopped, feed-taken}
+use Rattle.listing.specs.Loading.{startOf, stopped, rowOf, enterOf, goesOn, isBad, onStep, feedOf, endOf}
 use Rattle.listing.specs.declared.Load.{Load}
 
 pub started : (x : Scan) (b : Board) → x ≡ fresh → b ≡ emptyOf → record { refusal = 0; bad = false; line = 1; scan = x; board = b } ≡ startOf
@@ -61,18 +62,19 @@ module _ (l : Load) where
     end-blank k = rw (goes r h, sym e ∙ k)
 
     module _ (k : t ≡ false) (s : Step) (f : s ≡ finishOf (l .scan)) where
-      last : lastOf l s ≡ endOf l
+      last : onStep l s ≡ endOf l
       unfolding endOf
       last = rw (goes r h, sym e ∙ k, sym f)
 
       pub end-row : (a n o : ℕ) (m z : ℤ) (x : Load) → s ≡ step.Row a n o m → z ≡ m → x ≡ enterOf l (values a n o z) → x ≡ endOf l
-      end-row a n o m z x p q g = g ∙ ap (λ (y : ℤ). enterOf l (values a n o y)) q ∙ ap (lastOf l) (sym p) ∙ last
+      end-row a n o m z x p q g = g ∙ ap (λ (y : ℤ). enterOf l (values a n o y)) q ∙ ap (onStep l) (sym p) ∙ last
 
       pub end-last-bad : s ≡ step.Bad → isBad l ≡ endOf l
-      end-last-bad p = ap (lastOf l) (sym p) ∙ last
+      end-last-bad p = ap (onStep l) (sym p) ∙ last
 
+      -- the end of the input settles a line
       pub end-more : (q : Scan) → s ≡ step.More q → l ≡ endOf l
-      end-more q p = ap (lastOf l) (sym p) ∙ last
+      end-more q p = absurd (subst Settled (sym f ∙ p) (finish-settled (l .scan)))
 
   -- ---- a chunk
 
@@ -82,24 +84,19 @@ module _ (l : Load) where
   pub feed-bad : (s : List ℕ) → l .refusal ≡ 0 → l .bad ≡ true → l ≡ feedOf l s
   feed-bad s r h = feed-stopped l s (stopped-bad r h)
 
-  cond-same : (t : Bool) → l ≡ cond t l l
-  cond-same true = refl
-  cond-same false = refl
-
   pub feed-end : (s : List ℕ) (i : ℕ) → length s ≤ i → l ≡ feedOf l (drop i s)
   unfolding feedOf
-  feed-end s i h = rw (drop-of-length-le s {i = i} h) (cond-same (stopped l))
+  feed-end s i h = rw (drop-of-length-le s {i = i} h)
 
   module _ (s : List ℕ) (i : ℕ) (r : l .refusal ≡ 0) (h : l .bad ≡ false) (f : Found) (e : f ≡ nextOf (l .scan) i (drop i s)) where
     turn : feedOf l (drop i s) ≡ absorb l (onFound f (λ j. takenOf fresh (drop j s)))
-    unfolding feedOf
-    turn = ap (absorb l) (next-taken s i (l .scan) ∙ ap (λ (x : Found). onFound x (λ j. takenOf fresh (drop j s))) (sym e))
+    turn = feed-taken (drop i s) l ∙ ap (absorb l) (next-taken s i (l .scan) ∙ ap (λ (x : Found). onFound x (λ j. takenOf fresh (drop j s))) (sym e))
 
     pub feed-row : (a n o j : ℕ) (m z : ℤ) (x : Load) → f ≡ found.Row a n o m j → z ≡ m → x ≡ enterOf l (values a n o z) → feedOf l (drop i s) ≡ feedOf x (drop j s)
-    unfolding feedOf
     feed-row a n o j m z x p q g =
         turn ∙ ap (λ (y : Found). absorb l (onFound y (λ j. takenOf fresh (drop j s)))) p
-        ∙ rw (goes r h) (ap (λ (k : Load). feedOf k (drop j s)) (sym (g ∙ ap (λ (y : ℤ). enterOf l (values a n o y)) q)))
+        ∙ rw (goes r h) (sym (feed-taken (drop j s) (enterOf l (values a n o m))))
+        ∙ ap (λ (k : Load). feedOf k (drop j s)) (sym (g ∙ ap (λ (y : ℤ). enterOf l (values a n o y)) q))
 
     pub feed-later : (a n o j : ℕ) (m : ℤ) → f ≡ found.Row a n o m j → i < j
     feed-later a n o j m p = next-later (drop i s) (l .scan) i a n o j m (sym e ∙ p)

@@ -1,4 +1,4 @@
 pub mod Loading
 pub mod Outcome
-pub mod Whole
 pub mod Nodes
+pub mod OutcomeLaws

@@ -1,4 +1,4 @@
--- What a chunk of the input does to the load of a board, as definitions. Assumes nothing.
+-- What the bytes of the input do to the load of a board, as definitions. Assumes nothing.
 use Prim.Native.Nat.{ℕ, _+_, _%_}
 use mathlib.Core.Bool.{Bool, true, false, cond, not, _||_}
 use mathlib.Core.List.{List, [], _∷_}
@@ -9,8 +9,8 @@ use Rattle.board.specs.Edits.{addOf, emptyOf}
 use Rattle.lines.specs.declared.Scan.{Scan}
 use Rattle.lines.specs.declared.Step.{Step}
 use Rattle.lines.specs.declared.Step.the-variants as step
-use Rattle.lines.specs.Scan.{fresh, blankOf, finishOf}
-use Rattle.lines.specs.Text.{Values, values, Rest, within, broken, Taken, takenOf}
+use Rattle.lines.specs.Scan.{fresh, blankOf, finishOf, stepOf}
+use Rattle.lines.specs.Text.{Values, values}
 use Rattle.listing.specs.declared.Load.{Load}
 
 -- the first line of the input is line 1
@@ -37,27 +37,20 @@ goesOn l q = record { refusal = l .refusal; bad = l .bad; line = l .line; scan =
 abbrev pub isBad : Load → Load
 isBad l = record { refusal = l .refusal; bad = true; line = l .line; scan = fresh; board = l .board }
 
--- rows in order, up to the first that is refused
-abbrev pub enterAll : Load → List Values → Load
-enterAll l [] = l
-enterAll l (v ∷ vs) = cond (stopped l) l (enterAll (enterOf l v) vs)
+-- what one byte, or the end of the input, does to the line that is being read: it goes on, or it is a row, or it is no row
+abbrev pub onStep : Load → Step → Load
+onStep l (step.More q) = goesOn l q
+onStep l (step.Row a n o m) = enterOf l (values a n o m)
+onStep l step.Bad = isBad l
 
-abbrev pub afterRows : Load → Rest → Load
-afterRows l (within q) = cond (stopped l) l (goesOn l q)
-afterRows l broken = cond (stopped l) l (isBad l)
+abbrev pub feedByte : Load → ℕ → Load
+feedByte l b = cond (stopped l) l (onStep l (stepOf (l .scan) b))
 
-abbrev pub absorb : Load → Taken → Load
-absorb l t = afterRows (enterAll l (t .rows)) (t .rest)
-
--- the bytes s go on with the line that is being read
+-- the bytes s, one after the other
 unfoldable pub feedOf : Load → List ℕ → Load
-feedOf l s = absorb l (takenOf (l .scan) s)
-
-abbrev pub lastOf : Load → Step → Load
-lastOf l (step.Row a n o m) = enterOf l (values a n o m)
-lastOf l (step.More q) = l
-lastOf l step.Bad = isBad l
+feedOf l [] = l
+feedOf l (b ∷ s) = feedOf (feedByte l b) s
 
 -- the input ends, and with it the line that is being read, if it has a byte
 unfoldable pub endOf : Load → Load
-endOf l = cond (stopped l) l (cond (blankOf (l .scan)) l (lastOf l (finishOf (l .scan))))
+endOf l = cond (stopped l) l (cond (blankOf (l .scan)) l (onStep l (finishOf (l .scan))))

@@ -3,7 +3,9 @@ use Prim.Native.Nat.{ℕ}
 use mathlib.Core.Path.{_≡_, ap, _∙_}
 use mathlib.Core.Bool.{Bool, true, false}
 use lib.IntN.{ℤ}
-use Rattle.printing.specs.Printed.{freshOf, byteOf, numberOf, signedOf, columnOf, flagOf, lastColumnsOf, lineOf}
+use Rattle.printing.specs.Printed.{lineOf}
+use Rattle.printing.specs.LineLaws.{line-is}
+use Rattle.printing.specs.PrintedLayer.{freshOf, byteOf, numberOf, signedOf, columnOf, flagOf, lastColumnsOf, allColumnsOf}
 use Rattle.printing.specs.declared.Printed.{Printed}
 use Rattle.printing.specs.declared.Columns.{Columns}
 
@@ -29,5 +31,8 @@ module _ (c : Columns) where
 
   pub line-chain : (p₀ p₁ p₂ p₃ p₄ p₅ : Printed) → p₀ ≡ lastColumnsOf c → p₁ ≡ columnOf p₀ (c .root) → p₂ ≡ columnOf p₁ (c .level)
       → p₃ ≡ columnOf p₂ (c .parent) → p₄ ≡ columnOf p₃ (c .size) → p₅ ≡ columnOf p₄ (c .rank) → p₅ ≡ lineOf c
-  unfolding lineOf
-  line-chain p₀ p₁ p₂ p₃ p₄ p₅ e₀ e₁ e₂ e₃ e₄ e₅ = cc
+  unfolding allColumnsOf
+  line-chain p₀ p₁ p₂ p₃ p₄ p₅ e₀ e₁ e₂ e₃ e₄ e₅ = columns ∙ line-is c
+    where
+      columns : p₅ ≡ allColumnsOf c
+      columns = cc

@@ -11,9 +11,10 @@ use lib.Seq.{sets}
 use lib.IntN.{ℤ, pos, natAbs}
 use lib.Signed.{ltZ}
 use borrow.Author.Tests.{le-leb, lt-leb}
-use Rattle.lists.specs.Stores.{set-sets}
-use Rattle.lists.specs.Digits.{decimalIn, decimal, decimal-last, decimal-more, tenth-less, tenth-some}
-use Rattle.printing.specs.Printed.{room, before, byteOf, numberOf, signedOf}
+use Rattle.lists.specs.StoreLaws.{set-sets}
+use Rattle.lists.specs.Digits.{decimalIn, decimal}
+use Rattle.lists.specs.DigitLaws.{decimal-last, decimal-more, tenth-less, tenth-some}
+use Rattle.printing.specs.PrintedLayer.{room, before, byteOf, numberOf, signedOf}
 use Rattle.printing.specs.declared.Printed.{Printed}
 
 -- the digits `done` of n are stored from place `at` on; `rest` has at most `left` digits, which are still to be stored

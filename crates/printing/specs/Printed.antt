@@ -1,53 +1,13 @@
--- A line of output and what is put before its text, as definitions. Assumes nothing.
+-- A node's line of output, as a definition. Assumes nothing.
 use Prim.Native.Nat.{ℕ, _-_}
-use mathlib.Core.Bool.{Bool, cond, _&&_}
+use mathlib.Core.Bool.{Bool, cond}
 use mathlib.Core.List.{List, [], _∷_, _++_}
-use lib.Dec.{leb}
 use lib.IntN.{ℤ, pos, natAbs}
-use lib.ListN.{length, drop, replicate}
-use lib.Seq.{sets}
+use lib.ListN.{length, replicate}
 use lib.Signed.{ltZ}
 use Rattle.lists.specs.Digits.{decimal}
 use Rattle.printing.specs.declared.Printed.{Printed}
 use Rattle.printing.specs.declared.Columns.{Columns}
-
-unfoldable pub freshOf : Printed
-freshOf = record { from = 256; bytes = replicate 256 0 }
-
-abbrev pub textOf : Printed → List ℕ
-textOf p = drop (p .from) (p .bytes)
-
-abbrev pub room : Printed → ℕ → Bool
-room p n = leb n (p .from) && leb (p .from) 256
-
--- t goes before the text
-abbrev pub before : Printed → List ℕ → Printed
-before p t = record { from = p .from - length t; bytes = sets (p .bytes) (p .from - length t) t }
-
-unfoldable pub byteOf : Printed → ℕ → Printed
-byteOf p b = cond (room p 1) (before p (b ∷ [])) p
-
--- a number below 2^64 has at most 20 digits
-unfoldable pub numberOf : Printed → ℕ → Printed
-numberOf p n = cond (room p 20) (before p (decimal n)) p
-
-unfoldable pub signedOf : Printed → ℤ → Printed
-signedOf p n = cond (ltZ n (pos 0)) (byteOf (numberOf p (natAbs n)) 45) (numberOf p (natAbs n))
-
-unfoldable pub columnOf : Printed → ℕ → Printed
-columnOf p n = numberOf (byteOf p 32) n
-
-unfoldable pub flagOf : Printed → Bool → Printed
-flagOf p set = byteOf (byteOf p 32) (cond set 49 48)
-
-unfoldable pub lastColumnsOf : Columns → Printed
-lastColumnsOf c = flagOf (flagOf (columnOf (signedOf (byteOf freshOf 10) (c .sum)) (c .numeral)) (c .orphan)) (c .closing)
-
--- "per node rank, tree size, parent rank, level, root rank, closing, orphan, numeral, subtree sum"
-unfoldable pub lineOf : Columns → Printed
-lineOf c = columnOf (columnOf (columnOf (columnOf (columnOf (lastColumnsOf c) (c .root)) (c .level)) (c .parent)) (c .size)) (c .rank)
-
--- ---- the texts
 
 abbrev pub signedText : ℤ → List ℕ
 signedText n = cond (ltZ n (pos 0)) (45 ∷ decimal (natAbs n)) (decimal (natAbs n))
@@ -60,8 +20,12 @@ infixr 30 _then_
 abbrev pub _then_ : List ℕ → List ℕ → List ℕ
 s then t = s ++ (32 ∷ t)
 
--- a node's line: nine columns, a space between them, and a newline at the end
+-- "per node rank, tree size, parent rank, level, root rank, closing, orphan, numeral, subtree sum": nine columns, a space between them, and a newline at the end
 abbrev pub lineText : Columns → List ℕ
 lineText c =
     decimal (c .rank) then decimal (c .size) then decimal (c .parent) then decimal (c .level) then decimal (c .root) then
     (flagDigit (c .closing) ∷ []) then (flagDigit (c .orphan) ∷ []) then decimal (c .numeral) then (signedText (c .sum) ++ (10 ∷ []))
+
+-- the text stands in the last of 256 places, those before it are 0
+unfoldable pub lineOf : Columns → Printed
+lineOf c = record { from = 256 - length (lineText c); bytes = replicate (256 - length (lineText c)) 0 ++ lineText c }

@@ -1,7 +1,8 @@
 // A line of output, written from its end to its front, so that each number's digits come in the order in which they are found.
 ghost use mathlib.Core.Path.{_≡_};
 ghost use lib.IntN.{natAbs};
-ghost use Rattle.printing.specs.Printed.{freshOf, byteOf, numberOf, signedOf, columnOf, flagOf, lastColumnsOf, lineOf};
+ghost use Rattle.printing.specs.Printed.{lineOf};
+ghost use Rattle.printing.specs.PrintedLayer.{freshOf, byteOf, numberOf, signedOf, columnOf, flagOf, lastColumnsOf};
 
 // What is printed of a node, column by column.
 pub struct Columns {
@@ -35,7 +36,7 @@ pub fn magnitude(n: i64) -> u64
 }
 
 impl Printed {
-    pub fn new() -> Printed
+    fn new() -> Printed
         ensures { λ r. ⌜ r ≡ freshOf ⌝ }
     {
         Printed {
@@ -45,7 +46,7 @@ impl Printed {
     }
 
     // A byte goes before the text.
-    pub fn byte(self, b: u8) -> Printed
+    fn byte(self, b: u8) -> Printed
         ensures { λ r. ⌜ r ≡ byteOf self b ⌝ }
     {
         let from = self.from;
@@ -63,7 +64,7 @@ impl Printed {
     }
 
     // The digits of n go before the text.
-    pub fn number(self, n: u64) -> Printed
+    fn number(self, n: u64) -> Printed
         ensures { λ r. ⌜ r ≡ numberOf self n ⌝ }
     {
         let from = self.from;
@@ -87,7 +88,7 @@ impl Printed {
     }
 
     // The digits of n, with a minus sign if it is negative, go before the text.
-    pub fn signed(self, n: i64) -> Printed
+    fn signed(self, n: i64) -> Printed
         ensures { λ r. ⌜ r ≡ signedOf self n ⌝ }
     {
         let digits = self.number(magnitude(n));

@@ -7,7 +7,6 @@ use mir.Syntax.{w32}
 use Rattle.history.specs.declared.Call.the-variants.{Add, Remark}
 use mir.Facts.{toZ-ofZ}
 use Rattle.history.specs.Encoding.{callOf}
-use Prim.Native.Nat.{_-_}
 use Rattle.history.proofs.decode.Statement.{statement}
 use Rattle.history.proofs.decode.Tie as tie
 

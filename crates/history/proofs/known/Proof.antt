@@ -3,7 +3,7 @@ use mathlib.Core.Path.{_≡_, refl, sym, ap, _∙_, subst}
 use denote.Ref.{now}
 use mathlib.Core.Bool.{true}
 use Rattle.history.specs.Encoding.{kindAt, allKnown}
-use Rattle.history.specs.Replays.{known-not}
+use Rattle.history.specs.ReplayLaws.{known-not}
 use borrow.Author.Tests.{lt-leb, le-leb}
 use native.Mathlib.Numerals.{add-one}
 use borrow.Author.Needs.{needs}

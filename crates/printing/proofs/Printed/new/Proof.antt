@@ -1,6 +1,6 @@
 -- `Printed::new` meets its contract. Assumes nothing.
 use mathlib.Core.Path.{refl}
-use Rattle.printing.specs.Printed.{freshOf}
+use Rattle.printing.specs.PrintedLayer.{freshOf}
 use Rattle.printing.proofs.Printed.new.Statement.{statement}
 use Rattle.printing.proofs.Printed.new.Tie as tie
 

@@ -6,7 +6,7 @@ use mathlib.Core.Bool.{Bool, true, false, cond}
 use mathlib.Core.List.{List, [], _∷_, _++_}
 use lib.ListN.{length, getD, set}
 use lib.Dec.{eqb, leb}
-use Rattle.lists.specs.Moves.{without}
+use Rattle.lists.specs.Lists.{without}
 use Rattle.board.specs.declared.Row.{Row}
 use Rattle.board.specs.Journal.{blank}
 use Rattle.board.specs.Edits.{rowsOf, emptyOf, noRow, remarked}
@@ -14,7 +14,7 @@ use Rattle.history.specs.declared.Call.{Call}
 use Rattle.history.specs.declared.Call.the-variants.{Add, Withdraw, Remark, Undo}
 use Rattle.history.specs.Machine.{Machine, Answer, gives, changes, answer, after, start}
 use Rattle.history.specs.Calls.{final}
-use Rattle.history.specs.Simulation.{final-rows}
+use Rattle.history.specs.SimulationLaws.{final-rows}
 
 -- a call that changes the rows where it is accepted
 abbrev pub Edits : Call → Type 0

@@ -9,13 +9,29 @@ use mathlib.Core.List.{List, [], _∷_, _++_, append-nil}
 use lib.Dec.{ltb, eqb}
 use lib.IntN.{ℤ, pos, negℤ}
 use borrow.Author.Tests.{le-ltb, eq-eqb, ne-eqb, eqb-true, eqb-false, ltb-false}
-use Rattle.lists.specs.Members.{_∈_, append-right}
-use Rattle.lists.specs.Digits.{Digit, Digits, valueAfter, valueOf, value-grows}
-use Rattle.lines.specs.Scan.{starting, fresh, grown, signed, digitOf, finishOf, spaceOf, minusOf, stepOf, onward, scanned, lineOf}
+use Rattle.lists.specs.Lists.{_∈_}
+use Rattle.lists.specs.MemberLaws.{append-right}
+use Rattle.lists.specs.Digits.{Digit, Digits, valueAfter, valueOf}
+use Rattle.lists.specs.DigitLaws.{value-grows}
+use Rattle.lines.specs.Scan.{starting, fresh, grown, signed, digitOf, finishOf, spaceOf, minusOf, stepOf}
 use Rattle.lines.specs.Grammar.{Number, Minutes, unsigned, negative, Line}
 use Rattle.lines.specs.declared.Scan.{Scan}
 use Rattle.lines.specs.declared.Step.{Step}
 use Rattle.lines.specs.declared.Step.the-variants.{More, Row, Bad}
+
+abbrev pub onward : Step → (Scan → Step) → Step
+onward (More q) k = k q
+onward (Row a n o m) k = Row a n o m
+onward Bad k = Bad
+
+-- the scan of some bytes, after which the line ends
+abbrev pub scanned : Scan → List ℕ → Step
+scanned p [] = finishOf p
+scanned p (b ∷ s) = onward (stepOf p b) (λ q. scanned q s)
+
+-- the scan of a whole line, without its newline
+abbrev pub lineOf : List ℕ → Step
+lineOf s = scanned fresh s
 
 -- ---- a well-formed line is read
 

@@ -1,4 +1,4 @@
--- A scan over a text, chunk by chunk or whole, takes what the text's lines say. Assumes nothing.
+-- A scan over a text takes what the text's lines say. Assumes nothing.
 use Prim.Native.Nat.{ℕ, _+_, _*_, _-_, _%_, _<_, _≤_}
 use native.Mathlib.Omega.{arith}
 use mathlib.Core.Path.{_≡_, refl, sym, ap, ap₂, subst, _∙_}
@@ -10,36 +10,63 @@ use lib.IntN.{ℤ}
 use lib.ListN.{length, drop}
 use lib.Seq.{drop-drop}
 use borrow.Author.Tests.{eq-eqb, ne-eqb, eqb-true, eqb-false}
-use Rattle.lists.specs.Members.{_∈_, append-out}
+use Rattle.lists.specs.Lists.{_∈_}
+use Rattle.lists.specs.MemberLaws.{append-out}
 use Rattle.lines.specs.Grammar.{Line}
-use Rattle.lines.specs.Scan.{blankOf, starting, grown, signed, fresh, finishOf, stepOf, onward, scanned, lineOf, nextOf, carry}
-use Rattle.lines.specs.Reading.{Byte, newline, space, minus, digit, other, byte, line-row, row-line, bad-line, Settled, finish-settled}
-use Rattle.lines.specs.Text.{lastLine, linesAfter, linesOf, Values, values, Ending, badLine, Read, Say, none, row, bad, Rest, within, broken, Taken, put, onByte, takenOf, atEnd, restOf, readOf}
+use Rattle.lines.specs.Scan.{blankOf, starting, grown, signed, fresh, finishOf, stepOf, nextOf, carry}
+use Rattle.lines.specs.ReadingLaws.{onward, scanned, lineOf, Byte, newline, space, minus, digit, other, byte, line-row, row-line, bad-line, Settled, finish-settled}
+use Rattle.lines.specs.Text.{lastLine, linesAfter, linesOf, Values, values, Ending, whole, badLine, Say, none, row, bad}
 use Rattle.lines.specs.declared.Scan.{Scan}
 use Rattle.lines.specs.declared.Step.{Step}
 use Rattle.lines.specs.declared.Step.the-variants.{More, Row, Bad}
 use Rattle.lines.specs.declared.Found.{Found}
 use Rattle.lines.specs.declared.Found.the-variants as found
 
--- ---- two chunks are one
+-- ---- what a scan takes from a chunk: the rows of the lines that end in it, and then a line that goes on, or one that is bad
 
-abbrev pub follow : List Values → Rest → (Scan → Taken) → Taken
-follow vs (within q) k = record { rows = vs ++ k q .rows; rest = k q .rest }
-follow vs broken k = record { rows = vs; rest = broken }
+pub data Rest : Type 0 where
+  within : Scan → Rest
+  broken : Rest
 
-follow-put : (v : Values) (vs : List Values) (r : Rest) (k : Scan → Taken) → put v (follow vs r k) ≡ follow (v ∷ vs) r k
-follow-put v vs (within q) k = refl
-follow-put v vs broken k = refl
+pub record Taken : Type 0 where
+  pub rows : List Values
+  pub rest : Rest
 
-pub chunks : (s t : List ℕ) (p : Scan) → takenOf p (s ++ t) ≡ follow (takenOf p s .rows) (takenOf p s .rest) (λ q. takenOf q t)
-chunks [] t p = refl
-chunks (b ∷ s) t p = go (chunks s t) (stepOf p b)
-  where
-    go : ((q : Scan) → takenOf q (s ++ t) ≡ follow (takenOf q s .rows) (takenOf q s .rest) (λ q. takenOf q t)) → (r : Step)
-        → onByte r (λ q. takenOf q (s ++ t)) ≡ follow (onByte r (λ q. takenOf q s) .rows) (onByte r (λ q. takenOf q s) .rest) (λ q. takenOf q t)
-    go rec (More q) = rec q
-    go rec (Row a n o m) = ap (put (values a n o m)) (rec fresh) ∙ follow-put (values a n o m) (takenOf fresh s .rows) (takenOf fresh s .rest) (λ q. takenOf q t)
-    go rec Bad = refl
+abbrev pub put : Values → Taken → Taken
+put v t = record { rows = v ∷ t .rows; rest = t .rest }
+
+abbrev pub onByte : Step → (Scan → Taken) → Taken
+onByte (More q) k = k q
+onByte (Row a n o m) k = put (values a n o m) (k fresh)
+onByte Bad k = record { rows = []; rest = broken }
+
+abbrev pub takenOf : Scan → List ℕ → Taken
+takenOf p [] = record { rows = []; rest = within p }
+takenOf p (b ∷ s) = onByte (stepOf p b) (λ q. takenOf q s)
+
+-- ---- what a text gives that ends after what was taken
+
+pub record Read : Type 0 where
+  pub rows : List Values
+  pub ending : Ending
+
+-- the input ends, and with it the line that goes on, if it has a byte
+abbrev pub atEnd : Step → ℕ → Read
+atEnd (Row a n o m) k = record { rows = values a n o m ∷ []; ending = whole }
+atEnd (More q) k = record { rows = []; ending = whole }
+atEnd Bad k = record { rows = []; ending = badLine k }
+
+abbrev pub restOf : Rest → ℕ → Read
+restOf (within q) k = cond (blankOf q) (record { rows = []; ending = whole }) (atEnd (finishOf q) k)
+restOf broken k = record { rows = []; ending = badLine k }
+
+-- what was taken, and then the rest; the line that is scanned first has number k
+abbrev pub endedOf : List Values → Rest → ℕ → Read
+endedOf [] r k = restOf r k
+endedOf (v ∷ vs) r k = record { rows = v ∷ endedOf vs r (k + 1) .rows; ending = endedOf vs r (k + 1) .ending }
+
+abbrev pub readOf : Taken → ℕ → Read
+readOf t k = endedOf (t .rows) (t .rest) k
 
 -- ---- `next` over a chunk, row by row
 

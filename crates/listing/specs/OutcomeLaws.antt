@@ -1,4 +1,4 @@
--- Chunk borders do not matter, and a whole text gives what its lines say: their rows added in order to the empty board, up to the first thing that is wrong. Assumes nothing.
+-- Borders of chunks do not matter, and a whole text gives what its lines say: their rows added in order to the empty board, up to the first thing that is wrong. Assumes nothing.
 use Prim.Native.Nat.{ℕ, _+_, _≤_, _<_}
 use native.Mathlib.Omega.{arith}
 use native.Mathlib.Nat.{mod-eq-of-lt}
@@ -9,22 +9,36 @@ use lib.Dec.{eqb, leb}
 use lib.ListN.{length, length-append, length-replicate}
 use lib.Seq.{length-take-le}
 use borrow.Author.Tests.{eqb-true, eqb-false, leb-false}
-use Rattle.lists.specs.Stores.{length-front, take-front}
+use Rattle.lists.specs.StoreLaws.{length-front, take-front}
 use Rattle.board.specs.declared.Row.{Row}
 use Rattle.board.specs.declared.Board.{Board}
 use Rattle.board.specs.declared.Edited.{Edited}
 use Rattle.board.specs.Journal.{blank}
-use Rattle.lists.specs.Choice.{cond-none}
+use Rattle.lists.specs.ChoiceLaws.{cond-none}
 use Rattle.board.specs.Edits.{addRefusal, addOf, emptyOf, soundOf, rowsOf, refused, accepted}
 use Rattle.lines.specs.declared.Scan.{Scan}
 use Rattle.lines.specs.declared.Step.{Step}
 use Rattle.lines.specs.declared.Step.the-variants as step
-use Rattle.lines.specs.Scan.{fresh, blankOf, finishOf}
-use Rattle.lines.specs.Text.{linesOf, Values, Ending, whole, badLine, Say, Rest, within, broken, Taken, takenOf, atEnd, endedOf}
-use Rattle.lines.specs.Chunks.{follow, chunks, text-read, said-once}
-use Rattle.listing.specs.Loading.{startOf, stopped, rowOf, enterOf, goesOn, isBad, enterAll, afterRows, absorb, feedOf, lastOf, endOf}
+use Rattle.lines.specs.Scan.{fresh, blankOf, finishOf, stepOf}
+use Rattle.lines.specs.TextLaws.{Rest, within, broken, Taken, onByte, takenOf, atEnd, endedOf, text-read, said-once}
+use Rattle.lines.specs.Text.{linesOf, Values, values, Ending, whole, badLine, Say}
+use Rattle.listing.specs.Loading.{startOf, stopped, rowOf, enterOf, goesOn, isBad, onStep, feedByte, feedOf, endOf}
 use Rattle.listing.specs.Outcome.{loaded, refusedBy, outcomeOf, addRows}
 use Rattle.listing.specs.declared.Load.{Load}
+
+-- ---- what is taken from a text, entered line by line
+
+-- rows in order, up to the first that is refused
+abbrev pub enterAll : Load → List Values → Load
+enterAll l [] = l
+enterAll l (v ∷ vs) = cond (stopped l) l (enterAll (enterOf l v) vs)
+
+abbrev pub afterRows : Load → Rest → Load
+afterRows l (within q) = cond (stopped l) l (goesOn l q)
+afterRows l broken = cond (stopped l) l (isBad l)
+
+abbrev pub absorb : Load → Taken → Load
+absorb l t = afterRows (enterAll l (t .rows)) (t .rest)
 
 -- ---- nothing after the first wrong thing is looked at
 
@@ -42,7 +56,8 @@ module _ (l : Load) (h : stopped l ≡ true) where
 
 pub feed-stopped : (l : Load) (s : List ℕ) → stopped l ≡ true → l ≡ feedOf l s
 unfolding feedOf
-feed-stopped l s h = sym (absorb-stopped l h (takenOf (l .scan) s .rows) (takenOf (l .scan) s .rest))
+feed-stopped l [] h = refl
+feed-stopped l (b ∷ s) h = rw h (feed-stopped l s h)
 
 bad-stopped : (l : Load) → stopped (isBad l) ≡ true
 bad-stopped l = go (not (eqb (l .refusal) 0))
@@ -51,16 +66,7 @@ bad-stopped l = go (not (eqb (l .refusal) 0))
     go true = refl
     go false = refl
 
--- ---- two chunks are one
-
-module _ (l : Load) (v : Values) (vs us : List Values) (rec : enterAll (enterOf l v) (vs ++ us) ≡ enterAll (enterAll (enterOf l v) vs) us) where
-  enter-cons : (t : Bool) → stopped l ≡ t → cond t l (enterAll (enterOf l v) (vs ++ us)) ≡ enterAll (cond t l (enterAll (enterOf l v) vs)) us
-  enter-cons true h = sym (enter-stopped l h us)
-  enter-cons false h = rec
-
-enter-append : (vs us : List Values) (l : Load) → enterAll l (vs ++ us) ≡ enterAll (enterAll l vs) us
-enter-append [] us l = refl
-enter-append (v ∷ vs) us l = enter-cons l v vs us (enter-append vs us (enterOf l v)) (stopped l) refl
+-- ---- the bytes of a text do what the lines do that are taken from it
 
 -- the line that is being read matters only to the bytes that follow
 rest-anew : (l : Load) (q : Scan) (vs : List Values) (r : Rest) → stopped l ≡ false → afterRows (enterAll (goesOn l q) vs) r ≡ afterRows (enterAll l vs) r
@@ -68,25 +74,28 @@ rest-anew l q [] (within x) h = rw h
 rest-anew l q [] broken h = rw h
 rest-anew l q (v ∷ vs) r h = rw h
 
-feed-on : (l : Load) (q : Scan) (t : List ℕ) (b : Bool) → stopped l ≡ b → feedOf (cond b l (goesOn l q)) t ≡ afterRows (enterAll l (takenOf q t .rows)) (takenOf q t .rest)
+-- rows that were taken are entered, then the line that goes on or is bad
+pub feed-taken : (s : List ℕ) (l : Load) → feedOf l s ≡ absorb l (takenOf (l .scan) s)
 unfolding feedOf
-feed-on l q t true h = sym (feed-stopped l t h) ∙ sym (absorb-stopped l h (takenOf q t .rows) (takenOf q t .rest))
-feed-on l q t false h = rest-anew l q (takenOf q t .rows) (takenOf q t .rest) h
-
-feed-broken : (l : Load) (t : List ℕ) (b : Bool) → stopped l ≡ b → feedOf (cond b l (isBad l)) t ≡ cond b l (isBad l)
-feed-broken l t true h = sym (feed-stopped l t h)
-feed-broken l t false h = sym (feed-stopped (isBad l) t (bad-stopped l))
-
-feed-follow : (l : Load) (vs : List Values) (r : Rest) (t : List ℕ) → feedOf (absorb l (record { rows = vs; rest = r })) t ≡ absorb l (follow vs r (λ q. takenOf q t))
-feed-follow l vs (within q) t =
-    feed-on (enterAll l vs) q t (stopped (enterAll l vs)) refl
-    ∙ ap (λ (k : Load). afterRows k (takenOf q t .rest)) (sym (enter-append vs (takenOf q t .rows) l))
-feed-follow l vs broken t = feed-broken (enterAll l vs) t (stopped (enterAll l vs)) refl
+feed-taken [] l = same (stopped l)
+  where
+    same : (t : Bool) → l ≡ cond t l l
+    same true = refl
+    same false = refl
+feed-taken (b ∷ s) l = go (λ k. feed-taken s k) (stopped l) refl (stepOf (l .scan) b)
+  where
+    go : ((k : Load) → feedOf k s ≡ absorb k (takenOf (k .scan) s)) → (t : Bool) → stopped l ≡ t → (x : Step)
+        → feedOf (cond t l (onStep l x)) s ≡ absorb l (onByte x (λ q. takenOf q s))
+    go rec true h x = sym (feed-stopped l s h) ∙ sym (absorb-stopped l h (onByte x (λ q. takenOf q s) .rows) (onByte x (λ q. takenOf q s) .rest))
+    go rec false h (step.More q) = rec (goesOn l q) ∙ rest-anew l q (takenOf q s .rows) (takenOf q s .rest) h
+    go rec false h (step.Row a n o m) = rw h (rec (enterOf l (values a n o m)))
+    go rec false h step.Bad = rw h (sym (feed-stopped (isBad l) s (bad-stopped l)))
 
 -- a text fed in two chunks is fed whole
 pub feed-chunks : (l : Load) (s t : List ℕ) → feedOf (feedOf l s) t ≡ feedOf l (s ++ t)
 unfolding feedOf
-feed-chunks l s t = feed-follow l (takenOf (l .scan) s .rows) (takenOf (l .scan) s .rest) t ∙ ap (absorb l) (sym (chunks s t (l .scan)))
+feed-chunks l [] t = refl
+feed-chunks l (b ∷ s) t = feed-chunks (feedByte l b) s t
 
 -- ---- an accepted add
 
@@ -139,7 +148,7 @@ abbrev reading : ℕ → Scan → Board → Load
 reading k p b = record { refusal = 0; bad = false; line = k; scan = p; board = b }
 
 last-line : (k : ℕ) (q : Scan) (b : Board) (t : Bool) (r : Step)
-    → outcomeOf (cond t (reading k q b) (lastOf (reading k q b) r))
+    → outcomeOf (cond t (reading k q b) (onStep (reading k q b) r))
     ≡ addRows b (cond t (record { rows = []; ending = whole }) (atEnd r k) .rows) (cond t (record { rows = []; ending = whole }) (atEnd r k) .ending)
 last-line k q b true r = refl
 last-line k q b false (step.More x) = refl
@@ -186,11 +195,12 @@ empty-sized = record { places = length-replicate 1024 blank; small = omega arith
 
 -- the outcome of a text: the rows that its lines say, added in order to the empty board, up to the first thing that is wrong
 pub listing-outcome : (s : List ℕ) (vs : List Values) (e : Ending) → Say 1 (linesOf s) vs e → outcomeOf (endOf (feedOf startOf s)) ≡ addRows emptyOf vs e
-unfolding Gives feedOf emptyOf
+unfolding Gives emptyOf
 listing-outcome s vs e y =
     let t : Taken = takenOf fresh s in
     let same = said-once (text-read s) y in
-    gives (t .rows) (t .rest) 1 fresh emptyOf empty-sized refl ∙ ap₂ (λ (us : List Values) (d : Ending). addRows emptyOf us d) (same .0) (same .1)
+    ap (λ (l : Load). outcomeOf (endOf l)) (feed-taken s startOf)
+    ∙ gives (t .rows) (t .rest) 1 fresh emptyOf empty-sized refl ∙ ap₂ (λ (us : List Values) (d : Ending). addRows emptyOf us d) (same .0) (same .1)
 
 -- where a text gives a board, its rows are the rows of the text's lines, and every line is a row
 loaded-from : (vs : List Values) (e : Ending) (b c : Board) → Sized b → addRows b vs e ≡ loaded c → (rowsOf c ≡ rowsOf b ++ map rowOf vs) × (e ≡ whole)

@@ -8,8 +8,9 @@ use mathlib.Core.List.{List, [], _∷_, _++_}
 use lib.ListN.{length, set, length-append}
 use lib.Dec.{eqb, leb, ltb}
 use borrow.Author.Tests.{ltb-true, ltb-false, eq-eqb, ne-eqb}
-use Rattle.lists.specs.Choice.{cond-none}
-use Rattle.lists.specs.Stores.{front, front-push}
+use Rattle.lists.specs.ChoiceLaws.{cond-none}
+use Rattle.lists.specs.Lists.{front}
+use Rattle.lists.specs.StoreLaws.{front-push}
 use Rattle.board.specs.declared.Board.{Board}
 use Rattle.board.specs.declared.Edited.{Edited}
 use Rattle.board.specs.Edits.{emptyOf, rowsOf, soundOf}
@@ -18,7 +19,7 @@ use Rattle.history.specs.Calls.{edit, edits, final}
 use Rattle.history.specs.Encoding.{kindAt, callAt, firstCalls, decoded, allKnown, replayRefusal, replayedOf, refusalsOf}
 use Rattle.history.specs.declared.Replayed.{Replayed}
 use Rattle.history.specs.Machine.{answers, after, start}
-use Rattle.history.specs.Simulation.{final-refusals, final-rows, final-kept, final-sound}
+use Rattle.history.specs.SimulationLaws.{final-refusals, final-rows, final-kept, final-sound}
 
 -- ---- one more call at the end
 

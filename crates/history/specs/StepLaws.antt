@@ -9,9 +9,10 @@ use lib.Seq.{take-all, take-at, drop-at, length-take-le, take-suc, split-at, set
 use lib.IntN.{ℤ}
 use lib.Dec.{eqb, leb, ltb}
 use borrow.Author.Tests.{lt-ltb, le-leb, leb-true, leb-false, ltb-true, ltb-false, eqb-true, eqb-false}
-use Rattle.lists.specs.Choice.{and-yes, or-no}
-use Rattle.lists.specs.Stores.{take-front, length-front}
-use Rattle.lists.specs.Moves.{without, inserted, length-without}
+use Rattle.lists.specs.ChoiceLaws.{and-yes, or-no}
+use Rattle.lists.specs.StoreLaws.{take-front, length-front}
+use Rattle.lists.specs.Lists.{without, inserted}
+use Rattle.lists.specs.MoveLaws.{length-without}
 use Rattle.board.specs.declared.Row.{Row}
 use Rattle.board.specs.declared.Entry.{Entry}
 use Rattle.board.specs.declared.Board.{Board}
@@ -23,7 +24,7 @@ use Rattle.history.specs.declared.Call.{Call}
 use Rattle.history.specs.declared.Call.the-variants.{Add, Withdraw, Remark, Undo}
 use Rattle.history.specs.Machine.{gives, changes, goesBack, answer}
 use Rattle.history.specs.Calls.{edit}
-use Rattle.history.specs.States.{earlierLists, stateOf, AllUndoable, Valid}
+use Rattle.history.specs.StateLaws.{earlierLists, stateOf, AllUndoable, Valid}
 
 -- ---- fewer entries give fewer earlier lists
 

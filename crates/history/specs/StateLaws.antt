@@ -1,4 +1,4 @@
--- A board as a state of the plain machine, and the boards that calls lead to: definitions only. Assumes nothing.
+-- A board as a state of the plain machine, and the boards that calls lead to: what only the laws need. Assumes nothing.
 use Prim.Native.Nat.{_≤_}
 use mathlib.Core.Path.{_≡_}
 use mathlib.Core.Bool.{true}
