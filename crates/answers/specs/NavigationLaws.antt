@@ -9,7 +9,8 @@ use lib.Dec.{T, ltb}
 use lib.IntN.{ℤ, pos, negsuc, _-ℤ_}
 use lib.ListN.{length}
 use lib.Signed.{mag, leZ, _≤ℤ_}
-use Rattle.lists.specs.Members.{_∈_, filter-out}
+use Rattle.lists.specs.Lists.{_∈_}
+use Rattle.lists.specs.MemberLaws.{filter-out}
 use Rattle.image.specs.declared.Body.{Body}
 use Rattle.image.specs.Layout.{levelAt}
 use Rattle.image.specs.ImageLayer.{HoldsImage}

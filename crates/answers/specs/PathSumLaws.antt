@@ -10,8 +10,9 @@ use lib.IntN.{ℤ, pos, negsuc, _+ℤ_, _-ℤ_, +ℤ-idr}
 use lib.ListN.{length, getD, take, drop}
 use lib.Signed.{mag}
 use borrow.Author.Tests.{le-ltb}
-use Rattle.lists.specs.Choice.{after}
-use Rattle.lists.specs.Members.{_∈_, is-false, any, any-out, sum, sum-slice, filter-out}
+use Rattle.lists.specs.Choice.{firstOf}
+use Rattle.lists.specs.Lists.{_∈_, any, sum}
+use Rattle.lists.specs.MemberLaws.{is-false, any-out, sum-slice, filter-out}
 use Rattle.image.specs.declared.Body.{Body}
 use Rattle.image.specs.Layout.{bodyOf}
 use Rattle.image.specs.ImageLayer.{HoldsImage}
@@ -83,8 +84,8 @@ module _ {W : List (List ℕ)} (g : Forest W) {bs : List Body} (b : Described W 
 
   pub path-sum-here : (rank : ℕ) → PathSum minutes W rank (pathAnswer s t rank)
   path-sum-here rank =
-      subst (λ q. PathSum minutes W rank (sumAnswer (after (after q (rankRefusal s rank)) far) (pathSum s t rank))) (sym (totals-held k small fit h d (sized g b d) (sym (same-length g b))))
-      (subst (λ q. PathSum minutes W rank (sumAnswer (after (after 0 q) far) (pathSum s t rank))) (sym (rank-refused g b short small h rank))
+      subst (λ q. PathSum minutes W rank (sumAnswer (firstOf (firstOf q (rankRefusal s rank)) far) (pathSum s t rank))) (sym (totals-held k small fit h d (sized g b d) (sym (same-length g b))))
+      (subst (λ q. PathSum minutes W rank (sumAnswer (firstOf (firstOf 0 q) far) (pathSum s t rank))) (sym (rank-refused g b short small h rank))
       (go (noRank bs rank) (rank-test W bs (same-length g b) rank)))
     where
       d : Body
@@ -93,7 +94,7 @@ module _ {W : List (List ℕ)} (g : Forest W) {bs : List Body} (b : Described W 
       far : ℕ
       far = cond (badPath s t rank) 15 0
 
-      go : (v : Bool) → T v ↔ NoRank W rank → PathSum minutes W rank (sumAnswer (after (after 0 (cond v 14 0)) (cond (badPath s t rank) 15 0)) (pathSum s t rank))
+      go : (v : Bool) → T v ↔ NoRank W rank → PathSum minutes W rank (sumAnswer (firstOf (firstOf 0 (cond v 14 0)) (cond (badPath s t rank) 15 0)) (pathSum s t rank))
       go true f = record { refusal = applies (f .0 tt) refl; accepted = λ e. absurd (omega arith); refused = λ e. refl }
       go false f =
           let r = has-rank W rank (λ n. f .1 n) in

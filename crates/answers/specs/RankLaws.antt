@@ -9,7 +9,8 @@ use native.Mathlib.Decide.{ℕ-discrete}
 use lib.IntN.{ℤ, pos, _+ℤ_, +ℤ-comm, +ℤ-idr}
 use lib.ListN.{length, getD}
 use lib.Signed.{mag}
-use Rattle.lists.specs.Members.{_∈_, keep, filter, filter-append, filter-map, map-agree, numbers, numbers-append, numbers-out, Increasing, sum, sum-append}
+use Rattle.lists.specs.Lists.{_∈_, keep, filter, numbers, Increasing, sum}
+use Rattle.lists.specs.MemberLaws.{filter-append, filter-map, map-agree, numbers-append, numbers-out, sum-append}
 use Rattle.forest.specs.Nodes.{nodeAt, falling}
 
 pub falling-out : (n x : ℕ) → x ∈ falling n → (1 ≤ x) × (x ≤ n)

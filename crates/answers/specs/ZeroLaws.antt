@@ -6,7 +6,7 @@ use Prim.Native.Nat.{ℕ, zero, suc, _-_}
 use lib.Dec.{ltb}
 use lib.IntN.{ℤ}
 use lib.ListN.{length, replicate}
-use Rattle.lists.specs.Choice.{after}
+use Rattle.lists.specs.Choice.{firstOf}
 use Rattle.image.specs.Layout.{badContents}
 use Rattle.navigate.specs.Navigate.{badRank, badSpan, endOf, rankRefusal, spanRefusal, descendantList, siblingList, listAnswer, listOut}
 use Rattle.navigate.specs.Climb.{chain, badClimb, climbRefusal, ancestorList, climbAnswer}
@@ -34,10 +34,10 @@ module _ (n : ℕ) where
   span-13 rank = ap (λ t. cond t 13 (cond (badRank zeros rank) 14 (cond (badSpan zeros rank) 15 0))) (zeros-bad n)
 
   climb-13 : (rank : ℕ) → climbRefusal zeros rank ≡ 13
-  climb-13 rank = ap (λ q. after q (cond (badClimb zeros rank) 15 0)) (rank-13 rank)
+  climb-13 rank = ap (λ q. firstOf q (cond (badClimb zeros rank) 15 0)) (rank-13 rank)
 
   totals-13 : (t : List ℤ) → totalsRefusal zeros t ≡ 13
-  totals-13 t = ap (λ b. after (cond b 13 0) (cond (fewTotals zeros t) 13 0)) (zeros-bad n)
+  totals-13 t = ap (λ b. firstOf (cond b 13 0) (cond (fewTotals zeros t) 13 0)) (zeros-bad n)
 
   pub zeros-refused : (t : List ℤ) → RefusedNavigation zeros t
   zeros-refused t = record {
@@ -45,7 +45,7 @@ module _ (n : ℕ) where
     ancestors = λ rank lower upper out. let l : List ℕ = ancestorList zeros rank lower upper in (ap (λ q. climbAnswer q (chain zeros rank) l out) (climb-13 rank), ap (λ q. listOut q l out) (climb-13 rank));
     siblings = λ rank out. let l : List ℕ = siblingList zeros rank in (ap (λ q. listAnswer q l out) (rank-13 rank), ap (λ q. listOut q l out) (rank-13 rank));
     subtree-sums = λ rank. let far : ℕ = cond (beyond (totalAt t (endOf zeros rank)) || beyond (totalAt t (rank - 1))) 15 0 in
-        ap (λ q. sumAnswer (after (after q (spanRefusal zeros rank)) far) (spanSum zeros t rank)) (totals-13 t);
+        ap (λ q. sumAnswer (firstOf (firstOf q (spanRefusal zeros rank)) far) (spanSum zeros t rank)) (totals-13 t);
     path-sums = λ rank. let far : ℕ = cond (badPath zeros t rank) 15 0 in
-        ap (λ q. sumAnswer (after (after q (rankRefusal zeros rank)) far) (pathSum zeros t rank)) (totals-13 t);
+        ap (λ q. sumAnswer (firstOf (firstOf q (rankRefusal zeros rank)) far) (pathSum zeros t rank)) (totals-13 t);
   }

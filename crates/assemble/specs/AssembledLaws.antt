@@ -10,8 +10,8 @@ use borrow.Author.Tests.{ne-eqb, eqb-true}
 use lib.Dec.{eqb}
 use lib.IntN.{ℤ, pos}
 use lib.ListN.{List·getD-eq-default, length, getD, take, replicate, length-replicate, getD-replicate}
-use Rattle.lists.specs.Members.{_∈_, append-out, map-out, filter, filter-in, filter-out, numbers, numbers-in, numbers-out, totalsFrom}
-use Rattle.lists.specs.Stores.{front}
+use Rattle.lists.specs.Lists.{_∈_, filter, numbers, totalsFrom, front}
+use Rattle.lists.specs.MemberLaws.{append-out, map-out, filter-in, filter-out, numbers-in, numbers-out}
 use Rattle.board.specs.declared.Row.{Row}
 use Rattle.image.specs.declared.Body.{Body}
 use Rattle.image.specs.Layout.{imageWords}

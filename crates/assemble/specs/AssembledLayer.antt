@@ -5,7 +5,7 @@ use mathlib.Core.List.{List, map}
 use Prim.Native.Nat.{ℕ}
 use lib.IntN.{ℤ}
 use lib.ListN.{length}
-use Rattle.lists.specs.Stores.{front}
+use Rattle.lists.specs.Lists.{front}
 use Rattle.board.specs.declared.Row.{Row}
 use Rattle.image.specs.Layout.{imageWords}
 use Rattle.options.specs.declared.Depth.{Depth}

@@ -9,9 +9,11 @@ use native.Mathlib.Decide.{ℕ-discrete}
 use borrow.Author.Tests.{ne-eqb}
 use lib.Dec.{eqb}
 use lib.ListN.{length, getD, length-map}
-use Rattle.lists.specs.Choice.{bit, bit-test}
-use Rattle.lists.specs.Members.{filter, keep, numbers, any, is-false, place-of}
-use Rattle.lists.specs.Stores.{getD-mapped}
+use Rattle.lists.specs.Choice.{bit}
+use Rattle.lists.specs.ChoiceLaws.{bit-test}
+use Rattle.lists.specs.Lists.{filter, keep, numbers, any}
+use Rattle.lists.specs.MemberLaws.{is-false, place-of}
+use Rattle.lists.specs.StoreLaws.{getD-mapped}
 use Rattle.board.specs.Journal.{blank}
 use Rattle.board.specs.declared.Row.{Row}
 use Rattle.options.specs.declared.Depth.{Depth}

@@ -12,9 +12,10 @@ use lib.Dec.{T, eqb, eqb→eq}
 use lib.ListN.{length, getD, set, length-append, length-map}
 use lib.Seq.{sets, ext-getD, take-length}
 use Rattle.lists.specs.Choice.{bit}
-use Rattle.lists.specs.Members.{_∈_, filter, keep, filter-none, map-append, numbers, numbers-out, getD-in}
-use Rattle.lists.specs.Counting.{by-place, by-place-length}
-use Rattle.lists.specs.Stores.{getD-mapped, getD-inside}
+use Rattle.lists.specs.Lists.{_∈_, filter, keep, numbers}
+use Rattle.lists.specs.MemberLaws.{filter-none, map-append, numbers-out, getD-in}
+use Rattle.lists.specs.CountingLaws.{by-place, by-place-length}
+use Rattle.lists.specs.StoreLaws.{getD-mapped, getD-inside}
 use Rattle.board.specs.declared.Row.{Row}
 use Rattle.image.specs.declared.Body.{Body}
 use Rattle.image.specs.Layout.{bodyAt, rowAt, bodyWords, flat}

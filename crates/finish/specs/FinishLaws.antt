@@ -13,9 +13,10 @@ use lib.ListN.{length, getD, replicate, length-map, length-replicate, List·getD
 use lib.Seq.{sets, length-sets, ext-getD}
 use Rattle.board.specs.Journal.{blank}
 use Rattle.lists.specs.Choice.{bit}
-use Rattle.lists.specs.Members.{_∈_, filter, filter-map, filter-agree, filter-short, numbers, any, same-test, getD-in, place-of, Increasing, increasing-at, map-map, map-agree, totalsFrom, totals-map}
-use Rattle.lists.specs.Stores.{front, getD-mapped}
-use Rattle.lists.specs.Counting.{by-place, by-place-length}
+use Rattle.lists.specs.Lists.{_∈_, filter, numbers, any, Increasing, totalsFrom, front}
+use Rattle.lists.specs.MemberLaws.{filter-map, filter-agree, filter-short, same-test, getD-in, place-of, increasing-at, map-map, map-agree, totals-map}
+use Rattle.lists.specs.StoreLaws.{getD-mapped}
+use Rattle.lists.specs.CountingLaws.{by-place, by-place-length}
 use Rattle.board.specs.declared.Row.{Row}
 use Rattle.image.specs.declared.Body.{Body}
 use Rattle.image.specs.Layout.{rowAt, closingAt, bodyOf, flat, checked, contentsWords, imageWords}

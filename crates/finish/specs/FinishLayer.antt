@@ -8,8 +8,7 @@ use lib.Dec.{eqb}
 use lib.IntN.{ℤ, pos}
 use lib.ListN.{length, getD}
 use lib.Seq.{sets}
-use Rattle.lists.specs.Members.{_∈_, filter, numbers, totalsFrom}
-use Rattle.lists.specs.Stores.{front}
+use Rattle.lists.specs.Lists.{_∈_, filter, numbers, totalsFrom, front}
 use Rattle.board.specs.declared.Row.{Row}
 use Rattle.image.specs.declared.Body.{Body}
 use Rattle.image.specs.Layout.{flat, checked, imageWords}

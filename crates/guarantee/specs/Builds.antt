@@ -7,8 +7,7 @@ use Prim.Native.Nat.{ℕ, _≤_, _<_}
 use lib.Dec.{T}
 use lib.IntN.{ℤ, pos}
 use lib.ListN.{length, replicate}
-use Rattle.lists.specs.Members.{_∈_, Increasing, totalsFrom}
-use Rattle.lists.specs.Stores.{front}
+use Rattle.lists.specs.Lists.{_∈_, Increasing, totalsFrom, front}
 use Rattle.image.specs.declared.Body.{Body}
 use Rattle.image.specs.Layout.{imageWords, nodeCount, bodyOf, bodiesOf}
 use Rattle.forest.specs.Nodes.{rankOf, nodeAt, treeSize}

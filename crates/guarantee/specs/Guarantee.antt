@@ -10,14 +10,13 @@ use lib.IntN.{ℤ}
 use lib.ListN.{length}
 use mir.Syntax.{w32}
 use mir.Val.{SFits}
-use Rattle.lists.specs.Members.{_∈_}
+use Rattle.lists.specs.Lists.{_∈_}
 use Rattle.board.specs.declared.Row.{Row}
 use Rattle.board.specs.declared.Board.{Board}
 use Rattle.board.specs.Edits.{emptyOf, rowsOf, soundOf}
 use Rattle.history.specs.declared.Call.{Call}
 use Rattle.history.specs.Machine.{after, start}
-use Rattle.history.specs.Calls.{final}
-use Rattle.history.specs.Encoding.{AllFit}
+use Rattle.history.specs.Calls.{final, AllFit}
 use Rattle.history.specs.Simulation.{Simulates}
 use Rattle.options.specs.declared.Depth.{Depth}
 use Rattle.options.specs.Options.{orphanOf, multiOf, cycleOf}

@@ -8,17 +8,17 @@ use lib.Dec.{eqb, ltb}
 use lib.IntN.{ℤ, pos}
 use lib.ListN.{length, replicate, drop, length-take}
 use borrow.Author.Tests.{eq-eqb, ne-eqb, ltb-false}
-use Rattle.lists.specs.Choice.{or-no}
-use Rattle.lists.specs.Members.{Increasing, increasing-filter, numbers, numbers-rising}
-use Rattle.lists.specs.Stores.{front, front-is}
+use Rattle.lists.specs.ChoiceLaws.{or-no}
+use Rattle.lists.specs.Lists.{Increasing, numbers, front}
+use Rattle.lists.specs.MemberLaws.{increasing-filter, numbers-rising}
+use Rattle.lists.specs.StoreLaws.{front-is}
 use Rattle.board.specs.declared.Row.{Row}
 use Rattle.board.specs.declared.Board.{Board}
 use Rattle.board.specs.Edits.{emptyOf, rowsOf, soundOf}
 use Rattle.board.specs.Laws.{sound-count}
 use Rattle.history.specs.declared.Call.{Call}
-use Rattle.history.specs.Calls.{final}
-use Rattle.history.specs.Encoding.{AllFit}
-use Rattle.history.specs.Simulation.{simulation, final-rows, final-sound}
+use Rattle.history.specs.Calls.{final, AllFit}
+use Rattle.history.specs.SimulationLaws.{simulation, final-rows, final-sound}
 use Rattle.options.specs.declared.Depth.{Depth}
 use Rattle.options.specs.declared.Depth.the-variants.{None, Limit}
 use Rattle.options.specs.Options.{orphanOf}

@@ -6,16 +6,14 @@ use Prim.Native.Nat.{ℕ}
 use lib.Dec.{eqb}
 use lib.IntN.{ℤ, pos, negsuc}
 use lib.ListN.{length, replicate}
-use Rattle.lists.specs.Members.{sort, insert, numbers}
-use Rattle.lists.specs.Moves.{without}
-use Rattle.lists.specs.Stores.{front}
+use Rattle.lists.specs.Lists.{sort, insert, numbers, without, front}
 use Rattle.board.specs.declared.Row.{Row}
 use Rattle.board.specs.Edits.{emptyOf, rowsOf}
 use Rattle.history.specs.declared.Call.{Call}
 use Rattle.history.specs.declared.Call.the-variants.{Withdraw, Undo}
 use Rattle.history.specs.Machine.{after, start}
 use Rattle.history.specs.Calls.{final}
-use Rattle.history.specs.Simulation.{final-rows, final-sound, final-refusals}
+use Rattle.history.specs.SimulationLaws.{final-rows, final-sound, final-refusals}
 use Rattle.options.specs.declared.Depth.{Depth}
 use Rattle.options.specs.declared.Depth.the-variants.{None, Limit}
 use Rattle.options.specs.Options.{levelLimit}

@@ -8,15 +8,15 @@ use lib.Dec.{eqb, leb}
 use mir.Syntax.{w32}
 use mir.Val.{SFits}
 use lib.ListN.{length, getD, set, take, drop}
-use Rattle.lists.specs.Members.{_∈_, append-out, take-in}
-use Rattle.lists.specs.Moves.{without}
+use Rattle.lists.specs.Lists.{_∈_, without}
+use Rattle.lists.specs.MemberLaws.{append-out, take-in}
 use Rattle.board.specs.declared.Row.{Row}
 use Rattle.board.specs.Journal.{blank}
 use Rattle.board.specs.Edits.{noRow, remarked}
 use Rattle.history.specs.declared.Call.{Call}
 use Rattle.history.specs.declared.Call.the-variants.{Add, Withdraw, Remark, Undo}
 use Rattle.history.specs.Machine.{Machine, Answer, gives, changes, goesBack, answer, after, start}
-use Rattle.history.specs.Encoding.{MinutesFit, AllFit}
+use Rattle.history.specs.Calls.{MinutesFit, AllFit}
 use Rattle.guarantee.specs.Guarantee.{RowsFit}
 
 drop-in : {A : Type 0} (k : ℕ) (l : List A) (x : A) → x ∈ drop k l → x ∈ l

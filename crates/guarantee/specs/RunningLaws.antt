@@ -12,17 +12,17 @@ use mir.Val.{toZ, SFits}
 use mir.Facts.{sfits-toZ}
 use lib.ListN.{length, getD, length-take}
 use borrow.Author.Tests.{eq-eqb, ne-eqb, eqb-true}
-use Rattle.lists.specs.Stores.{front}
+use Rattle.lists.specs.Lists.{front}
 use Rattle.board.specs.declared.Row.{Row}
 use Rattle.board.specs.Edits.{emptyOf}
 use Rattle.history.specs.declared.Call.{Call}
 use Rattle.history.specs.declared.Call.the-variants.{Add, Withdraw, Remark, Undo}
 use Rattle.history.specs.declared.Replayed.{Replayed}
 use Rattle.history.specs.Machine.{answers, after, start}
-use Rattle.history.specs.Calls.{final}
-use Rattle.history.specs.Encoding.{callOf, callAt, firstCalls, MinutesFit, AllFit, decoded, replayRefusal, replayedOf, refusalsOf}
-use Rattle.history.specs.Simulation.{final-rows, final-kept, final-valid}
-use Rattle.history.specs.Replays.{length-first, replay-simulates}
+use Rattle.history.specs.Calls.{final, MinutesFit, AllFit}
+use Rattle.history.specs.Encoding.{callOf, callAt, firstCalls, decoded, replayRefusal, replayedOf, refusalsOf}
+use Rattle.history.specs.SimulationLaws.{final-rows, final-kept, final-valid}
+use Rattle.history.specs.ReplayLaws.{length-first, replay-simulates}
 use Rattle.options.specs.declared.Depth.{Depth}
 use Rattle.navigate.specs.declared.Listed.{Listed}
 use Rattle.navigate.specs.Navigate.{descendantsAnswer, descendantsOut}

@@ -10,7 +10,7 @@ use lib.Dec.{leb, eqb}
 use lib.ListN.{length, getD, take, drop}
 use lib.Seq.{take-append-seam}
 use borrow.Author.Tests.{eq-eqb, ne-eqb, le-leb}
-use Rattle.lists.specs.Ranges.{all-of, largest-here, largest-below}
+use Rattle.lists.specs.RangeLaws.{all-of, largest-here, largest-below}
 use Rattle.image.specs.Layout.{nodeCount, sizeAt, parentAt, rootAt, wordAt, levelAt, packed, flat, checked, contentsWords, imageWords, bodyOf, badContents}
 use Rattle.image.specs.ImageLaws.{node-count-read, contents-read, contents-hold, word-packed, length-flat}
 use Rattle.image.specs.ImageLayer.{HoldsImage}

@@ -8,8 +8,9 @@ use native.Mathlib.Decide.{ℕ-discrete, decLt}
 use native.Mathlib.Omega.{arith}
 use lib.Dec.{leb, eqb}
 use borrow.Author.Tests.{leb-true, eqb-true, eq-eqb, ne-eqb, not-true}
-use Rattle.lists.specs.Choice.{and-yes}
-use Rattle.lists.specs.Ranges.{allTo, all-at}
+use Rattle.lists.specs.ChoiceLaws.{and-yes}
+use Rattle.lists.specs.Lists.{allTo}
+use Rattle.lists.specs.RangeLaws.{all-at}
 use Rattle.image.specs.Layout.{nodeCount, sizeAt, parentAt, rootAt, levelAt, badContents}
 use Rattle.image.specs.ImageLaws.{Contents, contents}
 use Rattle.navigate.specs.Navigate.{endOf}

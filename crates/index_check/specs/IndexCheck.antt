@@ -4,7 +4,7 @@ use mathlib.Core.List.{List}
 use mathlib.Core.Bool.{Bool, cond, _&&_, not}
 use lib.ListN.{getD, take, drop}
 use lib.Dec.{ltb, leb, eqb}
-use Rattle.lists.specs.Ranges.{allTo, largestTo}
+use Rattle.lists.specs.Lists.{allTo, largestTo}
 use Rattle.image.specs.Layout.{nodeCount, sizeAt, parentAt, rootAt, wordAt, levelAt, checked, badContents}
 use Rattle.navigate.specs.Navigate.{endOf}
 

@@ -4,7 +4,7 @@ use mathlib.Core.Bool.{true}
 use mathlib.Core.List.{List}
 use Prim.Native.Nat.{ℕ, _-_, _≤_, _<_}
 use lib.ListN.{length}
-use Rattle.lists.specs.Ranges.{allTo}
+use Rattle.lists.specs.Lists.{allTo}
 use Rattle.image.specs.Layout.{bodiesEnd, parentAt}
 use Rattle.index_check.specs.IndexCheck.{rankRight}
 

@@ -11,9 +11,10 @@ use lib.Dec.{T}
 use lib.IntN.{ℤ, pos, negsuc, negℤ, _+ℤ_, negℤ-+ℤ, negℤ-negℤ, +ℤ-comm}
 use lib.Signed.{mag}
 use borrow.Author.Tests.{eq-eqb, ne-eqb, le-ltb, le-leb}
-use Rattle.lists.specs.Members.{_∈_, filter-in, filter-out, filter-all, numbers, numbers-in, numbers-out}
-use Rattle.lists.specs.Ranges.{limits-negate}
-use Rattle.lists.specs.Signed.{mag-sub}
+use Rattle.lists.specs.Lists.{_∈_, numbers}
+use Rattle.lists.specs.MemberLaws.{filter-in, filter-out, filter-all, numbers-in, numbers-out}
+use Rattle.lists.specs.RangeLaws.{limits-negate}
+use Rattle.lists.specs.SignedLaws.{mag-sub}
 use Rattle.image.specs.Layout.{nodeCount, sizeAt, parentAt, rootAt, levelAt}
 use Rattle.navigate.specs.Navigate.{badRank, badSpan, endOf, spanRefusal, within, rankDistance, descendantList}
 use Rattle.navigate.specs.Climb.{chain, badClimb, climbRefusal, ancestorList, ancestorsAnswer}

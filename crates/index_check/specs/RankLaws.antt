@@ -7,8 +7,9 @@ use native.Mathlib.Decide.{ℕ-discrete}
 use native.Mathlib.Omega.{arith}
 use lib.Dec.{ltb, leb}
 use borrow.Author.Tests.{ltb-true, lt-ltb, leb-true, le-leb, eqb-true}
-use Rattle.lists.specs.Choice.{and-yes}
-use Rattle.lists.specs.Ranges.{largestTo, largest-here, largest-le, largest-holds, largest-above, largest-below}
+use Rattle.lists.specs.ChoiceLaws.{and-yes}
+use Rattle.lists.specs.Lists.{largestTo}
+use Rattle.lists.specs.RangeLaws.{largest-here, largest-le, largest-holds, largest-above, largest-below}
 use Rattle.image.specs.Layout.{sizeAt, parentAt, badContents, contentsRefusal}
 use Rattle.index_check.specs.IndexCheck.{contains, parentOf, sizeRight, endRight, parentRight, levelRight, rootRight, bitsRight, rankRight}
 

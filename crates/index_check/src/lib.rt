@@ -2,7 +2,7 @@
 ghost use mathlib.Core.Path.{_≡_};
 ghost use Prim.Native.Nat.{_≤_};
 ghost use lib.ListN.{length};
-ghost use Rattle.lists.specs.Ranges.{allTo};
+ghost use Rattle.lists.specs.Lists.{allTo};
 ghost use Rattle.image.specs.Layout.{bodiesEnd, nodeCount};
 ghost use Rattle.index_check.specs.IndexCheck.{parentOf, sizeRight, endRight, parentRight, levelRight, rootRight, bitsRight, rankRight, zerosRight, checkRight, accepts};
 ghost use Rattle.index_check.specs.IndexCheckLayer.{InIndex, LowerRight, ParentBelow};

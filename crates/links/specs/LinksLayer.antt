@@ -6,7 +6,7 @@ use Prim.Native.Nat.{ℕ, suc, _+_, _-_, _%_, _<_, _≤_}
 use lib.Dec.{eqb, ltb}
 use lib.ListN.{length, getD, drop}
 use Rattle.lists.specs.Choice.{bit}
-use Rattle.lists.specs.Members.{filter, numbers}
+use Rattle.lists.specs.Lists.{filter, numbers}
 use Rattle.board.specs.declared.Row.{Row}
 use Rattle.paths.specs.Forest.{memb}
 use Rattle.paths.specs.Rows.{num, par}

@@ -7,7 +7,7 @@ use lib.Signed.{leZ}
 use mir.Syntax.{w32, w64}
 use mir.Val.{SFits, toZ, ofZ}
 use mir.Facts.{toZ-pos, toZ-ofZ, sfits-widen}
-use Rattle.lists.specs.Signed.{mag-sub}
+use Rattle.lists.specs.SignedLaws.{mag-sub}
 use Rattle.navigate.specs.declared.Keep.the-variants.{Within}
 
 difference-fits : (a b : ℕ) → a < 2 ^ 32 → b < 2 ^ 32 → SFits w64 (pos a -ℤ pos b)

@@ -8,8 +8,9 @@ use native.Mathlib.Numerals.{add-one}
 use lib.ListN.{length, getD, take, drop, set, length-drop}
 use lib.Seq.{take-suc, drop-cons, length-take-le, getD-drop}
 use borrow.Author.Tests.{lt-ltb, le-ltb, ne-eqb}
-use Rattle.lists.specs.Choice.{after}
-use Rattle.lists.specs.Stores.{front, front-push}
+use Rattle.lists.specs.Choice.{firstOf}
+use Rattle.lists.specs.Lists.{front}
+use Rattle.lists.specs.StoreLaws.{front-push}
 use Rattle.navigate.specs.Navigate.{listAnswer, listOut}
 use Rattle.navigate.specs.Climb.{climbAnswer}
 use Rattle.navigate.specs.declared.Listed.{Listed}
@@ -53,7 +54,7 @@ climb-fits t r l out out' x e h q w =
     (q ∙ simp (e, le-ltb (length out) (length l) h), simp (e, le-ltb (length out) (length l) h) w)
 
 pub climb-refused : (q y : ℕ) (r l out : List ℕ) → (q ≡ 0 → ⊥)
-    → (_≡_ {A = Climbed} (record { refusal = q; len = 0; links = 0 }) (climbAnswer (after q y) r l out)) × (out ≡ listOut (after q y) l out)
+    → (_≡_ {A = Climbed} (record { refusal = q; len = 0; links = 0 }) (climbAnswer (firstOf q y) r l out)) × (out ≡ listOut (firstOf q y) l out)
 climb-refused q y r l out h = (simp (ne-eqb q 0 h), simp (ne-eqb q 0 h))
 
 -- ---- a list w of which n elements are written

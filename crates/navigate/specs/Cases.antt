@@ -4,7 +4,7 @@ use mathlib.Core.List.{List, [], _∷_}
 use Prim.Native.Nat.{ℕ}
 use lib.IntN.{pos}
 use lib.ListN.{replicate}
-use Rattle.lists.specs.Stores.{front}
+use Rattle.lists.specs.Lists.{front}
 use Rattle.image.specs.Layout.{bodyWords, flat, checked, contentsWords, imageWords, badContents}
 use Rattle.image.specs.Sample.{listing}
 use Rattle.navigate.specs.Navigate.{badRank, badSpan, spanPart, descendantList, siblingList, descendantsAnswer, siblingsAnswer, siblingsOut}

@@ -5,8 +5,8 @@ use mathlib.Core.Bool.{Bool, true, false, cond}
 use lib.ListN.{length}
 use lib.Dec.{ltb, eqb}
 use lib.IntN.{ℤ}
-use Rattle.lists.specs.Members.{filter}
-use Rattle.lists.specs.Choice.{after}
+use Rattle.lists.specs.Lists.{filter}
+use Rattle.lists.specs.Choice.{firstOf}
 use Rattle.image.specs.Layout.{parentAt}
 use Rattle.navigate.specs.Navigate.{rankRefusal, within, rankDistance, listRefusal, listOut}
 use Rattle.navigate.specs.declared.Climbed.{Climbed}
@@ -29,7 +29,7 @@ abbrev pub badClimb : List ℕ → ℕ → Bool
 badClimb s rank = stuckFrom s rank rank
 
 abbrev pub climbRefusal : List ℕ → ℕ → ℕ
-climbRefusal s rank = after (rankRefusal s rank) (cond (badClimb s rank) 15 0)
+climbRefusal s rank = firstOf (rankRefusal s rank) (cond (badClimb s rank) 15 0)
 
 -- ancestors: those of the chain within the limits
 abbrev pub ancestorList : List ℕ → ℕ → ℤ → ℤ → List ℕ

@@ -8,8 +8,9 @@ use lib.ListN.{length, getD}
 use lib.Dec.{ltb, eqb}
 use lib.IntN.{ℤ, pos, _-ℤ_}
 use borrow.Author.Tests.{eqb-false, ltb-false, ne-eqb, le-ltb}
-use Rattle.lists.specs.Choice.{or-no}
-use Rattle.lists.specs.Members.{_∈_, getD-in, filter, filter-agree, numbers, numbers-out}
+use Rattle.lists.specs.ChoiceLaws.{or-no}
+use Rattle.lists.specs.Lists.{_∈_, filter, numbers}
+use Rattle.lists.specs.MemberLaws.{getD-in, filter-agree, numbers-out}
 use Rattle.image.specs.Layout.{nodeCount, sizeAt, levelAt}
 use Rattle.image.specs.ImageLaws.{node-count-read, contents-hold, size-read, level-read}
 use Rattle.image.specs.ImageLayer.{HoldsImage}

@@ -6,9 +6,8 @@ use lib.ListN.{length, take, drop}
 use lib.Dec.{ltb, eqb}
 use lib.IntN.{ℤ, pos, _-ℤ_}
 use lib.Signed.{leZ}
-use Rattle.lists.specs.Members.{filter, numbers}
-use Rattle.lists.specs.Stores.{front}
-use Rattle.lists.specs.Choice.{after}
+use Rattle.lists.specs.Lists.{filter, numbers, front}
+use Rattle.lists.specs.Choice.{firstOf}
 use Rattle.image.specs.Layout.{nodeCount, bodyAt, sizeAt, parentAt, levelAt, badContents}
 use Rattle.navigate.specs.declared.Listed.{Listed}
 
@@ -52,7 +51,7 @@ siblingList s rank = filter (λ k. eqb (parentAt s k) (parentAt s rank)) (number
 
 -- the refusal before the list is made, else 16 where the list is longer than its slice
 abbrev pub listRefusal : ℕ → List ℕ → List ℕ → ℕ
-listRefusal refusal l out = after refusal (cond (ltb (length out) (length l)) 16 0)
+listRefusal refusal l out = firstOf refusal (cond (ltb (length out) (length l)) 16 0)
 
 -- the result of a list: its length, or 0 where it is refused
 abbrev pub listAnswer : ℕ → List ℕ → List ℕ → Listed

@@ -5,7 +5,7 @@ use Prim.Native.Nat.{ℕ, _≤_}
 use native.Mathlib.Omega.{arith}
 use lib.Dec.{eqb}
 use borrow.Author.Tests.{ltb-false, eqb-false}
-use Rattle.lists.specs.Choice.{or-no, cond-none}
+use Rattle.lists.specs.ChoiceLaws.{or-no, cond-none}
 use Rattle.image.specs.Layout.{nodeCount, sizeAt, badContents}
 use Rattle.image.specs.ImageLaws.{Contents, contents}
 use Rattle.navigate.specs.Navigate.{badRank, badSpan, endOf, rankRefusal, spanRefusal}

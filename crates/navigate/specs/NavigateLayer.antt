@@ -5,7 +5,7 @@ use mathlib.Core.Bool.{Bool, cond}
 use lib.ListN.{length}
 use lib.Dec.{eqb}
 use lib.IntN.{pos, _-ℤ_}
-use Rattle.lists.specs.Members.{filter}
+use Rattle.lists.specs.Lists.{filter}
 use Rattle.image.specs.Layout.{parentAt, levelAt}
 use Rattle.navigate.specs.Navigate.{within}
 use Rattle.navigate.specs.Climb.{chain, badClimb}

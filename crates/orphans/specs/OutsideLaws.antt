@@ -11,8 +11,9 @@ use borrow.Author.Tests.{eq-eqb, ne-eqb, le-leb, lt-leb}
 use lib.Dec.{eqb, leb}
 use lib.ListN.{length, getD, set}
 use lib.Seq.{getD-set-same, getD-set-other, ext-getD}
-use Rattle.lists.specs.Members.{_∈_, filter, keep, filter-out, numbers, numbers-out}
-use Rattle.lists.specs.Counting.{by-place, by-place-length}
+use Rattle.lists.specs.Lists.{_∈_, filter, keep, numbers}
+use Rattle.lists.specs.MemberLaws.{filter-out, numbers-out}
+use Rattle.lists.specs.CountingLaws.{by-place, by-place-length}
 use Rattle.links.specs.LinksLayer.{NextChain, end, more}
 use Rattle.table.specs.TableLayer.{rowColumn, childColumn, nextColumn, classColumn, parentPositionColumn, flagColumn, Stored}
 use Rattle.table.specs.TableLaws.{column-length}

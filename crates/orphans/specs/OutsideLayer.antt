@@ -6,7 +6,7 @@ use mathlib.Core.List.{List, map}
 use Prim.Native.Nat.{ℕ, zero, suc, _-_, _/_, _≤_, _<_}
 use lib.Dec.{eqb, leb}
 use lib.ListN.{length, getD}
-use Rattle.lists.specs.Members.{filter, numbers}
+use Rattle.lists.specs.Lists.{filter, numbers}
 use Rattle.links.specs.LinksLayer.{NextChain}
 use Rattle.table.specs.TableLayer.{column, rowColumn, childColumn, nextColumn, classColumn, parentPositionColumn, flagColumn}
 

@@ -8,7 +8,7 @@ use lib.Dec.{eqb, ltb}
 use lib.IntN.{ℤ, pos}
 use lib.ListN.{length, getD, replicate}
 use Rattle.lists.specs.Choice.{bit}
-use Rattle.lists.specs.Members.{filter, numbers, any, totalsFrom}
+use Rattle.lists.specs.Lists.{filter, numbers, any, totalsFrom}
 use Rattle.image.specs.Layout.{rowAt, sizeAt, closingAt}
 use Rattle.paths.specs.Forest.{memb}
 use Rattle.table.specs.TableLayer.{column, rowColumn, childColumn, nextColumn, classColumn}

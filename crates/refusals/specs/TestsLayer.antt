@@ -4,7 +4,7 @@ use mathlib.Core.List.{List}
 use Prim.Native.Nat.{ℕ, _-_, _/_, min}
 use lib.Dec.{eqb, leb, ltb}
 use lib.ListN.{length, getD}
-use Rattle.lists.specs.Members.{numbers, any}
+use Rattle.lists.specs.Lists.{numbers, any}
 use Rattle.table.specs.TableLayer.{rowColumn, parentPositionColumn, flagColumn}
 
 -- how many nodes the slices hold, at most 65,535; the index has 8 words or more, the totals one or more

@@ -7,7 +7,7 @@ use lib.Dec.{eqb}
 use borrow.Author.Tests.{eq-eqb, ne-eqb}
 use Rattle.listing.specs.declared.Load.{Load}
 use Rattle.listing.specs.Loading.{startOf, stopped, goesOn, feedOf, endOf}
-use Rattle.listing.specs.Whole.{feed-chunks}
+use Rattle.listing.specs.OutcomeLaws.{feed-chunks}
 use Rattle.streams.specs.Reading.{Fed, OfText}
 
 or-true : (a b : Bool) → b ≡ true → a || b ≡ true

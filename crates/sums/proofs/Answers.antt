@@ -7,7 +7,8 @@ use native.Mathlib.Omega.{arith}
 use lib.ListN.{length}
 use lib.IntN.{ℤ, pos}
 use borrow.Author.Tests.{eq-eqb, ne-eqb, ltb-false}
-use Rattle.lists.specs.Choice.{after, after-zero, cond-none}
+use Rattle.lists.specs.Choice.{firstOf}
+use Rattle.lists.specs.ChoiceLaws.{first-zero, cond-none}
 use Rattle.image.specs.Layout.{nodeCount, contentsRefusal}
 use Rattle.sums.specs.Sums.{fewTotals, totalsRefusal, sumAnswer}
 use Rattle.sums.specs.SumsLayer.{found}
@@ -18,18 +19,18 @@ of q z = record { refusal = q; sum = z }
 
 -- ---- what is refused first
 
-pub sum-first : (q p y r : ℕ) (z : ℤ) → r ≡ q → (r ≡ 0 → ⊥) → of r (pos 0) ≡ sumAnswer (after (after q p) y) z
+pub sum-first : (q p y r : ℕ) (z : ℤ) → r ≡ q → (r ≡ 0 → ⊥) → of r (pos 0) ≡ sumAnswer (firstOf (firstOf q p) y) z
 sum-first q p y r z e h = ap (λ (k : ℕ). of k (pos 0)) e ∙ simp (ne-eqb q 0 (λ w. h (e ∙ w)))
 
-pub sum-second : (q p y r : ℕ) (z : ℤ) → q ≡ 0 → r ≡ p → (r ≡ 0 → ⊥) → of r (pos 0) ≡ sumAnswer (after (after q p) y) z
+pub sum-second : (q p y r : ℕ) (z : ℤ) → q ≡ 0 → r ≡ p → (r ≡ 0 → ⊥) → of r (pos 0) ≡ sumAnswer (firstOf (firstOf q p) y) z
 sum-second q p y r z n e h = ap (λ (k : ℕ). of k (pos 0)) e ∙ simp (eq-eqb q 0 n, ne-eqb p 0 (λ w. h (e ∙ w)))
 
-pub sum-last : (q p y : ℕ) (z : ℤ) → q ≡ 0 → p ≡ 0 → sumAnswer y z ≡ sumAnswer (after (after q p) y) z
+pub sum-last : (q p y : ℕ) (z : ℤ) → q ≡ 0 → p ≡ 0 → sumAnswer y z ≡ sumAnswer (firstOf (firstOf q p) y) z
 sum-last q p y z n m = simp (eq-eqb q 0 n, eq-eqb p 0 m)
 
 -- enough totals
 pub enough : (s : List ℕ) (t : List ℤ) → totalsRefusal s t ≡ 0 → nodeCount s + 1 ≤ length t
-enough s t e = ltb-false _ _ (cond-none (fewTotals s t) 13 0 (omega arith) (after-zero (contentsRefusal s) _ e .1) .0)
+enough s t e = ltb-false _ _ (cond-none (fewTotals s t) 13 0 (omega arith) (first-zero (contentsRefusal s) _ e .1) .0)
 
 -- ---- what is found
 

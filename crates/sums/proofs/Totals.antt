@@ -11,9 +11,9 @@ use mir.Syntax.{w64}
 use mir.Val.{SFits, toZ, ofZ}
 use mir.Facts.{toZ-ofZ}
 use borrow.Author.Tests.{ltb-false}
-use Rattle.lists.specs.Choice.{or-no}
-use Rattle.lists.specs.Members.{sum}
-use Rattle.lists.specs.Signed.{mag-add, mag-negate}
+use Rattle.lists.specs.ChoiceLaws.{or-no}
+use Rattle.lists.specs.Lists.{sum}
+use Rattle.lists.specs.SignedLaws.{mag-add, mag-negate}
 use Rattle.sums.specs.Sums.{beyond, leaves32, badTotals}
 
 total-mag : (z : ℤ) → beyond z ≡ false → mag z ≤ 140737488355328

@@ -10,8 +10,10 @@ use lib.Dec.{ltb, eqb}
 use lib.IntN.{ℤ, pos, negsuc, _-ℤ_, +ℤ-idl}
 use lib.Signed.{mag}
 use borrow.Author.Tests.{eqb-false, ltb-false, le-ltb}
-use Rattle.lists.specs.Choice.{or-no, after}
-use Rattle.lists.specs.Members.{_∈_, sum, totalsFrom, sum-slice, totals-length, totals-at, sum-bound, take-in}
+use Rattle.lists.specs.ChoiceLaws.{or-no}
+use Rattle.lists.specs.Choice.{firstOf}
+use Rattle.lists.specs.Lists.{_∈_, sum, totalsFrom}
+use Rattle.lists.specs.MemberLaws.{sum-slice, totals-length, totals-at, sum-bound, take-in}
 use Rattle.image.specs.Layout.{nodeCount}
 use Rattle.image.specs.ImageLaws.{node-count-read, contents-hold, size-read}
 use Rattle.image.specs.ImageLayer.{HoldsImage}
@@ -53,7 +55,7 @@ module _ {A : Type 0} {f : A → ℤ} {l : List A} {t : List ℤ} (g : HoldsTota
       totals-held =
           let n : nodeCount s ≡ length bs = node-count-read h in
           let m = totals-long in
-          ap (λ (b : Bool). after (cond b 13 0) (cond (fewTotals s t) 13 0)) (contents-hold h (omega arith))
+          ap (λ (b : Bool). firstOf (cond b 13 0) (cond (fewTotals s t) 13 0)) (contents-hold h (omega arith))
           ∙ ap (λ (b : Bool). cond {A = ℕ} b 13 0) (le-ltb (length t) (nodeCount s + 1) (omega arith))
 
       module _ (rank : ℕ) where
@@ -90,12 +92,12 @@ module _ {A : Type 0} {f : A → ℤ} {l : List A} {t : List ℤ} (g : HoldsTota
         pub subtree-held : subtreeAnswer s t rank ≡ sumAnswer (cond (noRank bs rank) 14 0) spanMinutes
         subtree-held =
             let far : ℕ = cond (beyond (totalAt t (endOf s rank)) || beyond (totalAt t (rank - 1))) 15 0 in
-            ap (λ (q : ℕ). sumAnswer (after (after q (spanRefusal s rank)) far) (spanSum s t rank)) totals-held
-            ∙ ap (λ (q : ℕ). sumAnswer (after (after 0 q) far) (spanSum s t rank)) (span-held h (omega arith) d sized rank)
+            ap (λ (q : ℕ). sumAnswer (firstOf (firstOf q (spanRefusal s rank)) far) (spanSum s t rank)) totals-held
+            ∙ ap (λ (q : ℕ). sumAnswer (firstOf (firstOf 0 q) far) (spanSum s t rank)) (span-held h (omega arith) d sized rank)
             ∙ go (noRank bs rank) refl
           where
             go : (b : Bool) → noRank bs rank ≡ b
-                → sumAnswer (after (after 0 (cond b 14 0)) (cond (beyond (totalAt t (endOf s rank)) || beyond (totalAt t (rank - 1))) 15 0)) (spanSum s t rank) ≡ sumAnswer (cond b 14 0) spanMinutes
+                → sumAnswer (firstOf (firstOf 0 (cond b 14 0)) (cond (beyond (totalAt t (endOf s rank)) || beyond (totalAt t (rank - 1))) 15 0)) (spanSum s t rank) ≡ sumAnswer (cond b 14 0) spanMinutes
             go true e = refl
             go false e =
                 ap (λ (b : Bool). sumAnswer (cond b 15 0) (spanSum s t rank)) (near e)

@@ -6,8 +6,8 @@ use lib.ListN.{length, getD}
 use lib.Dec.{ltb, eqb}
 use lib.IntN.{ℤ, pos, negℤ, _-ℤ_}
 use lib.Signed.{ltZ}
-use Rattle.lists.specs.Members.{any, sum}
-use Rattle.lists.specs.Choice.{after}
+use Rattle.lists.specs.Lists.{any, sum}
+use Rattle.lists.specs.Choice.{firstOf}
 use Rattle.image.specs.Layout.{nodeCount, contentsRefusal}
 use Rattle.navigate.specs.Navigate.{endOf, rankRefusal, spanRefusal}
 use Rattle.navigate.specs.Climb.{chain, badClimb}
@@ -21,7 +21,7 @@ abbrev pub fewTotals : List ℕ → List ℤ → Bool
 fewTotals s t = ltb (length t) (nodeCount s + 1)
 
 abbrev pub totalsRefusal : List ℕ → List ℤ → ℕ
-totalsRefusal s t = after (contentsRefusal s) (cond (fewTotals s t) 13 0)
+totalsRefusal s t = firstOf (contentsRefusal s) (cond (fewTotals s t) 13 0)
 
 -- beyond 2^47 either side
 unfoldable pub beyond : ℤ → Bool
@@ -41,7 +41,7 @@ spanSum s t rank = totalAt t (endOf s rank) -ℤ totalAt t (rank - 1)
 
 abbrev pub subtreeRefusal : List ℕ → List ℤ → ℕ → ℕ
 subtreeRefusal s t rank =
-    after (after (totalsRefusal s t) (spanRefusal s rank)) (cond (beyond (totalAt t (endOf s rank)) || beyond (totalAt t (rank - 1))) 15 0)
+    firstOf (firstOf (totalsRefusal s t) (spanRefusal s rank)) (cond (beyond (totalAt t (endOf s rank)) || beyond (totalAt t (rank - 1))) 15 0)
 
 abbrev pub subtreeAnswer : List ℕ → List ℤ → ℕ → Summed
 subtreeAnswer s t rank = sumAnswer (subtreeRefusal s t rank) (spanSum s t rank)
@@ -65,7 +65,7 @@ abbrev pub badPath : List ℕ → List ℤ → ℕ → Bool
 badPath s t rank = badClimb s rank || any (badOwn t) (chain s rank)
 
 abbrev pub pathRefusal : List ℕ → List ℤ → ℕ → ℕ
-pathRefusal s t rank = after (after (totalsRefusal s t) (rankRefusal s rank)) (cond (badPath s t rank) 15 0)
+pathRefusal s t rank = firstOf (firstOf (totalsRefusal s t) (rankRefusal s rank)) (cond (badPath s t rank) 15 0)
 
 abbrev pub pathAnswer : List ℕ → List ℤ → ℕ → Summed
 pathAnswer s t rank = sumAnswer (pathRefusal s t rank) (pathSum s t rank)

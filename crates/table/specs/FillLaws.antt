@@ -7,9 +7,9 @@ use native.Mathlib.Nat.{zero-add}
 use native.Mathlib.Omega.{arith}
 use lib.ListN.{length, getD, drop}
 use lib.Seq.{getD-set-other}
-use Rattle.lists.specs.Members.{numbers}
-use Rattle.lists.specs.Counting.{by-place, by-place-length}
-use Rattle.lists.specs.Stores.{Filling, filling-start, filling-step, filling-end, getD-sets-below}
+use Rattle.lists.specs.Lists.{numbers}
+use Rattle.lists.specs.CountingLaws.{by-place, by-place-length}
+use Rattle.lists.specs.StoreLaws.{Filling, filling-start, filling-step, filling-end, getD-sets-below}
 use Rattle.table.specs.TableLayer.{column, Stored}
 use Rattle.table.specs.TableLaws.{column-length}
 

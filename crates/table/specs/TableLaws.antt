@@ -8,7 +8,7 @@ use native.Mathlib.Decide.{ℕ-discrete}
 use native.Mathlib.Nat.{zero-add}
 use lib.ListN.{length, getD, set, length-set, List·getD-eq-default}
 use lib.Seq.{getD-set-same, getD-set-other, ext-getD}
-use Rattle.lists.specs.Counting.{by-place, by-place-length}
+use Rattle.lists.specs.CountingLaws.{by-place, by-place-length}
 use Rattle.table.specs.TableLayer.{column, Stored}
 
 pub column-length : (k : ℕ) (t : List ℕ) → length (column k t) ≡ length t / 8

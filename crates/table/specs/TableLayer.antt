@@ -4,7 +4,7 @@ use mathlib.Core.Logic.{_≢_}
 use mathlib.Core.List.{List, map}
 use Prim.Native.Nat.{ℕ, _+_, _*_, _/_, _<_}
 use lib.ListN.{length, getD, set}
-use Rattle.lists.specs.Members.{numbers}
+use Rattle.lists.specs.Lists.{numbers}
 
 -- the words of column k, a word a row
 unfoldable pub column : ℕ → List ℕ → List ℕ

@@ -5,7 +5,7 @@ use mathlib.Core.List.{List}
 use Prim.Native.Nat.{ℕ, _+_}
 use lib.Dec.{eqb}
 use lib.ListN.{length}
-use Rattle.lists.specs.Members.{filter}
+use Rattle.lists.specs.Lists.{filter}
 use Rattle.table.specs.TableLayer.{rowColumn}
 use Rattle.passes.specs.Passes.{Named, rowsTo, reachedFlags}
 use Rattle.orphans.specs.OutsideLayer.{OutsideLinked}

@@ -5,7 +5,7 @@ use Prim.Native.Nat.{ℕ, _+_}
 use native.Mathlib.Omega.{arith}
 use lib.ListN.{set}
 use denote.Ref.{now}
-use Rattle.lists.specs.Stores.{set-past}
+use Rattle.lists.specs.StoreLaws.{set-past}
 use Rattle.image.specs.Layout.{bodyAt}
 use Rattle.image.proofs.set_size.Statement.{statement}
 use Rattle.image.proofs.set_size.Tie as tie

@@ -5,7 +5,8 @@ use Prim.Native.Nat.{ℕ, _<_, _-_}
 use native.Mathlib.Omega.{arith}
 use denote.Ref.{now}
 use borrow.Author.Needs.{needs}
-use Rattle.lists.specs.Ranges.{largestTo, all-at}
+use Rattle.lists.specs.Lists.{largestTo}
+use Rattle.lists.specs.RangeLaws.{all-at}
 use Rattle.image.specs.declared.Body.{Body}
 use Rattle.index_check.specs.IndexCheck.{contains, parentOf, parentRight, rankRight}
 use Rattle.index_check.specs.RankLaws.{right, parent-below, climb-here, climb-past}

@@ -7,7 +7,8 @@ use native.Mathlib.Omega.{arith}
 use denote.Ref.{now}
 use borrow.Author.Tests.{not-true, not-false}
 use borrow.Author.Needs.{needs}
-use Rattle.lists.specs.Ranges.{allTo, all-next, all-fails}
+use Rattle.lists.specs.Lists.{allTo}
+use Rattle.lists.specs.RangeLaws.{all-next, all-fails}
 use Rattle.index_check.specs.IndexCheck.{rankRight}
 use Rattle.index_check.proofs.ranks_right.Statement.{statement}
 use Rattle.index_check.proofs.ranks_right.Tie as tie

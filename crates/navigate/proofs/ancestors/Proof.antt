@@ -5,8 +5,8 @@ use denote.Ref.{now}
 use native.Mathlib.Omega.{arith}
 use mathlib.Core.Path.{_≡_, sym, ap, _∙_}
 use borrow.Author.Needs.{needs}
-use Rattle.lists.specs.Members.{filter}
-use Rattle.lists.specs.Choice.{after-none}
+use Rattle.lists.specs.Lists.{filter}
+use Rattle.lists.specs.ChoiceLaws.{first-passed}
 use Rattle.image.specs.declared.Body.{Body}
 use Rattle.navigate.specs.Navigate.{rankRefusal, listOut}
 use Rattle.navigate.specs.NavigateLaws.{Ranked, ranked}
@@ -60,7 +60,7 @@ returns-2 c =
     let s = now (x .index) in
     let r = chain s (x .rank) in
     let q : ℕ = cond (badClimb s (x .rank)) 15 0 in
-    let n = after-none (rankRefusal s (x .rank)) q (none e) in
+    let n = first-passed (rankRefusal s (x .rank)) q (none e) in
     let p = c .before .before .list-climb .ensures in
     let k = within-eq (ap (λ (b : Body). b .level) (c .before .before .before .before .body-of .ensures)) (e .before .before .before .before .fits .lo) (e .before .before .before .before .fits .hi) in (
       p .0

@@ -8,8 +8,9 @@ use native.Mathlib.Omega.{arith}
 use borrow.Author.Needs.{needs}
 use lib.ListN.{length}
 use denote.Ref.{now}
-use Rattle.lists.specs.Members.{filter, filter-short}
-use Rattle.lists.specs.Choice.{filter-yes, filter-no}
+use Rattle.lists.specs.Lists.{filter}
+use Rattle.lists.specs.MemberLaws.{filter-short}
+use Rattle.lists.specs.ChoiceLaws.{filter-yes, filter-no}
 use Rattle.image.specs.Layout.{parentAt}
 use Rattle.image.specs.declared.Body.{Body}
 use Rattle.navigate.specs.Climb.{chain, badClimb}

@@ -7,8 +7,8 @@ use native.Mathlib.Omega.{arith}
 use lib.ListN.{length}
 use denote.Ref.{now}
 use borrow.Author.Needs.{needs}
-use Rattle.lists.specs.Members.{filter, numbers}
-use Rattle.lists.specs.Choice.{count-yes, count-no, count-le}
+use Rattle.lists.specs.Lists.{filter, numbers}
+use Rattle.lists.specs.ChoiceLaws.{count-yes, count-no, count-le}
 use Rattle.navigate.specs.NavigateLayer.{keepsAt}
 use Rattle.navigate.proofs.count_kept.Statement.{statement}
 use Rattle.navigate.proofs.count_kept.Tie as tie

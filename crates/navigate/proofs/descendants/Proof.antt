@@ -4,7 +4,7 @@ use Prim.Native.Nat.{ℕ}
 use native.Mathlib.Omega.{arith}
 use mathlib.Core.Path.{_≡_, sym, ap, _∙_}
 use borrow.Author.Needs.{needs}
-use Rattle.lists.specs.Members.{filter, numbers}
+use Rattle.lists.specs.Lists.{filter, numbers}
 use Rattle.image.specs.declared.Body.{Body}
 use Rattle.navigate.specs.Navigate.{spanRefusal, within, rankDistance, descendantList, listAnswer, listOut}
 use Rattle.navigate.specs.NavigateLaws.{Span, span}

@@ -2,7 +2,7 @@
 use denote.Ref.{now}
 use native.Mathlib.Omega.{arith}
 use borrow.Author.Needs.{needs}
-use Rattle.lists.specs.Members.{filter}
+use Rattle.lists.specs.Lists.{filter}
 use Rattle.navigate.specs.Climb.{chain, badClimb}
 use Rattle.navigate.specs.NavigateLayer.{keepsAt}
 use Rattle.navigate.proofs.Lists.{climb-stuck, climb-open, climb-long, climb-fits}

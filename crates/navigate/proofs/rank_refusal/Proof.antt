@@ -5,7 +5,7 @@ use native.Mathlib.Omega.{arith}
 use mathlib.Core.Bool.{false}
 use mathlib.Core.Path.{_≡_, sym, _∙_}
 use borrow.Author.Needs.{needs}
-use Rattle.lists.specs.Choice.{cond-refused}
+use Rattle.lists.specs.ChoiceLaws.{cond-refused}
 use Rattle.image.specs.Layout.{badContents}
 use Rattle.image.specs.ImageLaws.{contents, contents-of}
 use Rattle.navigate.specs.Navigate.{badRank}

@@ -5,7 +5,7 @@ use native.Mathlib.Omega.{arith}
 use mathlib.Core.Path.{_≡_, sym, ap, _∙_}
 use lib.Dec.{eqb}
 use borrow.Author.Needs.{needs}
-use Rattle.lists.specs.Members.{filter, numbers}
+use Rattle.lists.specs.Lists.{filter, numbers}
 use Rattle.image.specs.Layout.{nodeCount, parentAt}
 use Rattle.image.specs.declared.Body.{Body}
 use Rattle.navigate.specs.Navigate.{rankRefusal, siblingList, listAnswer, listOut}

@@ -5,7 +5,7 @@ use native.Mathlib.Omega.{arith}
 use mathlib.Core.Path.{_≡_, sym, ap, _∙_}
 use denote.Ref.{now}
 use borrow.Author.Needs.{needs}
-use Rattle.lists.specs.Choice.{cond-refused}
+use Rattle.lists.specs.ChoiceLaws.{cond-refused}
 use Rattle.image.specs.Layout.{nodeCount, sizeAt, badContents}
 use Rattle.image.specs.ImageLaws.{contents, contents-of}
 use Rattle.image.specs.declared.Body.{Body}

@@ -8,9 +8,9 @@ use borrow.Author.Needs.{needs}
 use lib.ListN.{length, take, drop, set, length-drop}
 use lib.Seq.{length-take-le, take-length}
 use denote.Ref.{now}
-use Rattle.lists.specs.Members.{filter}
-use Rattle.lists.specs.Choice.{filter-yes, filter-no}
-use Rattle.lists.specs.Stores.{front, length-front}
+use Rattle.lists.specs.Lists.{filter, front}
+use Rattle.lists.specs.ChoiceLaws.{filter-yes, filter-no}
+use Rattle.lists.specs.StoreLaws.{length-front}
 use Rattle.image.specs.Layout.{parentAt}
 use Rattle.image.specs.declared.Body.{Body}
 use Rattle.navigate.specs.Climb.{chain, badClimb}

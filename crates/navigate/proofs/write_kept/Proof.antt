@@ -8,9 +8,9 @@ use native.Mathlib.Nat.{le-antisymm}
 use native.Mathlib.Omega.{arith}
 use lib.ListN.{length, set}
 use denote.Ref.{now}
-use Rattle.lists.specs.Members.{filter, numbers}
-use Rattle.lists.specs.Choice.{count-yes, count-no, count-mono, count-room, passed-yes, passed-no}
-use Rattle.lists.specs.Stores.{front, front-push, length-front}
+use Rattle.lists.specs.Lists.{filter, numbers, front}
+use Rattle.lists.specs.ChoiceLaws.{count-yes, count-no, count-mono, count-room, passed-yes, passed-no}
+use Rattle.lists.specs.StoreLaws.{front-push, length-front}
 use Rattle.navigate.specs.NavigateLayer.{keepsAt}
 use Rattle.navigate.proofs.write_kept.Statement.{statement}
 use Rattle.navigate.proofs.write_kept.Tie as tie

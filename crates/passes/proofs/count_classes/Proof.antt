@@ -3,7 +3,8 @@ use mathlib.Core.Logic.{_≢_}
 use mathlib.Core.List.{List}
 use lib.Dec.{eqb}
 use lib.ListN.{getD}
-use Rattle.lists.specs.Members.{filter, filter-short}
+use Rattle.lists.specs.Lists.{filter}
+use Rattle.lists.specs.MemberLaws.{filter-short}
 use Rattle.table.specs.TableLayer.{column, childColumn, nextColumn}
 use Rattle.table.specs.TableLaws.{column-length}
 use Rattle.passes.specs.PassesLayer.{classAt, classesTo, classCounts}

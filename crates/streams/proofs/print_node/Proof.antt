@@ -1,6 +1,6 @@
 -- `streams::print_node` is safe and ends: a line starts in its bytes. Assumes nothing.
 use borrow.Author.Needs.{needs}
-use Rattle.printing.specs.Lines.{line-starts, line-long}
+use Rattle.printing.specs.LineLaws.{line-starts, line-long}
 use Rattle.streams.proofs.print_node.Statement.{statement}
 use Rattle.streams.proofs.print_node.Tie as tie
 

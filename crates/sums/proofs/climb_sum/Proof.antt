@@ -11,7 +11,7 @@ use mir.Val.{SFits, toZ, ofZ}
 use mir.Facts.{toZ-ofZ}
 use denote.Ref.{now}
 use borrow.Author.Needs.{needs}
-use Rattle.lists.specs.Members.{any, sum}
+use Rattle.lists.specs.Lists.{any, sum}
 use Rattle.image.specs.Layout.{parentAt}
 use Rattle.image.specs.declared.Body.{Body}
 use Rattle.navigate.specs.Climb.{chain, badClimb}
