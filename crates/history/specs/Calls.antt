@@ -1,6 +1,8 @@
--- The same calls on a board: what the edits answer, one after the other. Definitions only. Assumes nothing.
+-- The same calls on a board: what the edits answer, one after the other; and calls that code can be handed. Definitions only. Assumes nothing.
 use Prim.Native.Nat.{ℕ}
 use mathlib.Core.List.{List, [], _∷_}
+use mir.Syntax.{w32}
+use mir.Val.{SFits}
 use Rattle.board.specs.declared.Board.{Board}
 use Rattle.board.specs.declared.Edited.{Edited}
 use Rattle.board.specs.Edits.{addOf, withdrawOf, remarkOf, undoOf}
@@ -22,3 +24,14 @@ edits b (c ∷ cs) = edit b c .refusal ∷ edits (edit b c .board) cs
 abbrev pub final : Board → List Call → Board
 final b [] = b
 final b (c ∷ cs) = final (edit b c .board) cs
+
+-- minutes are an i32, as in every call that code can be handed: the definitions allow any integer
+abbrev pub MinutesFit : Call → Type 0
+MinutesFit (Add r) = SFits w32 (r .minutes)
+MinutesFit (Withdraw k) = Unit {0}
+MinutesFit (Remark k minutes) = SFits w32 minutes
+MinutesFit Undo = Unit {0}
+
+abbrev pub AllFit : List Call → Type 0
+AllFit [] = Unit {0}
+AllFit (c ∷ cs) = MinutesFit c × AllFit cs

@@ -9,11 +9,12 @@ use lib.Seq.{take-suc, take-all}
 use lib.IntN.{ℤ}
 use mir.Facts.{toZ-ofZ}
 use mir.Syntax.{w32}
-use mir.Val.{ofZ, SFits}
+use mir.Val.{ofZ}
 use borrow.Author.Tests.{eq-eqb, le-ltb, le-leb}
 use Rattle.lists.specs.Lists.{flatMap}
 use Rattle.history.specs.declared.Call.{Call}
 use Rattle.history.specs.declared.Call.the-variants.{Add, Withdraw, Remark, Undo}
+use Rattle.history.specs.Calls.{MinutesFit, AllFit}
 use Rattle.history.specs.Encoding.{callOf, kindAt, callAt, firstCalls, decoded, allKnown, replayRefusal}
 use Rattle.history.specs.ReplayLaws.{Replays, replay-simulates}
 
@@ -26,17 +27,6 @@ wordsOf Undo = 3 ∷ 0 ∷ 0 ∷ 0 ∷ 0 ∷ []
 
 abbrev pub encoded : List Call → List ℕ
 encoded calls = flatMap wordsOf calls
-
--- minutes are an i32
-abbrev pub MinutesFit : Call → Type 0
-MinutesFit (Add r) = SFits w32 (r .minutes)
-MinutesFit (Withdraw k) = Unit {0}
-MinutesFit (Remark k minutes) = SFits w32 minutes
-MinutesFit Undo = Unit {0}
-
-abbrev pub AllFit : List Call → Type 0
-AllFit [] = Unit {0}
-AllFit (c ∷ cs) = MinutesFit c × AllFit cs
 
 -- ---- the words of the first call, and those after it
 
