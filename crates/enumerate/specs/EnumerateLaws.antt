@@ -40,7 +40,7 @@ use Rattle.table.specs.TableLaws.{column-length}
 use Rattle.links.specs.PreparedLayer.{Prepared, StartFlags}
 use Rattle.links.specs.StartLaws.{flagged-rows}
 use Rattle.orphans.specs.OutsideLayer.{lastFlag, lastBelow}
-use Rattle.passes.specs.Passes.{Named, rowsTo}
+use Rattle.passes.specs.PassesLayer.{Named, rowsTo}
 use Rattle.walk.specs.WalkLayer.{Rows, rowsOf, rowOf, Clear, Walked, flagged}
 use Rattle.walk.specs.WalkLaws.{emit-append, walked-join, clear-marked}
 use Rattle.walk.specs.declared.Progress.{Progress}

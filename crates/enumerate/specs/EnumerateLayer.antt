@@ -13,7 +13,7 @@ use Rattle.paths.specs.Rows.{num, par}
 use Rattle.paths.specs.EmitLayer.{emit, mkBody}
 use Rattle.paths.specs.Nodes.{sorted, noParent}
 use Rattle.table.specs.TableLayer.{rowColumn, numeralColumn, classColumn}
-use Rattle.passes.specs.Passes.{rowsTo}
+use Rattle.passes.specs.PassesLayer.{rowsTo}
 use Rattle.walk.specs.WalkLayer.{Rows, rowOf, ListsChildren, MarksSeen, Walked, Clear, nodeBody, flagged}
 use Rattle.walk.specs.declared.Progress.{Progress}
 use Rattle.enumerate.specs.declared.StartProgress.{StartProgress}

@@ -8,7 +8,7 @@ ghost use Rattle.board.specs.declared.Row.{Row};
 ghost use Rattle.options.specs.declared.Depth.the-variants.{None};
 ghost use Rattle.table.specs.TableLayer.{rowColumn, childColumn, flagColumn};
 ghost use Rattle.links.specs.PreparedLayer.{Prepared, StartFlags, WithNumerals, AnyPrepared};
-ghost use Rattle.passes.specs.Passes.{Named, rowsTo};
+ghost use Rattle.passes.specs.PassesLayer.{Named, rowsTo};
 ghost use Rattle.paths.specs.Bodies.{bodies};
 ghost use Rattle.paths.specs.Refusals.{orphanChoice};
 ghost use Rattle.walk.specs.WalkLayer.{Walkable, Walked, rowsOf};

@@ -17,7 +17,7 @@ use Rattle.options.specs.declared.Depth.{Depth}
 use Rattle.navigate.specs.Navigate.{descendantsAnswer, descendantsOut}
 use Rattle.sums.specs.Sums.{subtreeAnswer}
 use Rattle.request.specs.declared.Start.{Start}
-use Rattle.request.specs.Build.{startRule, refusedBy, builtOf, indexAfter, totalsAfter}
+use Rattle.request.specs.Build.{startRule, builtOf, indexAfter, totalsAfter}
 use Rattle.guarantee.specs.declared.ReplayedAll.{ReplayedAll}
 use Rattle.answers.specs.Answers.{Descendants, SubtreeSum}
 use Rattle.paths.specs.Bodies.{minutesOf}
@@ -31,7 +31,7 @@ notReplayed number =
       calls = 0;
       kept = 0;
       count = 0;
-      built = refusedBy number;
+      built = record { refusal = number; nodes = 0; left = 0 };
       listed = record { refusal = number; len = 0 };
       summed = record { refusal = number; sum = pos 0 };
     }

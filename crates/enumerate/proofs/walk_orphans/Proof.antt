@@ -7,7 +7,7 @@ use lib.Dec.{eqb}
 use lib.ListN.{length}
 use Rattle.lists.specs.Lists.{filter}
 use Rattle.table.specs.TableLayer.{rowColumn}
-use Rattle.passes.specs.Passes.{Named, rowsTo, reachedFlags}
+use Rattle.passes.specs.PassesLayer.{Named, rowsTo, reachedFlags}
 use Rattle.orphans.specs.OutsideLayer.{OutsideLinked}
 use Rattle.enumerate.specs.OrphanLaws.{prepared-few, prepared-linkable, none-outside, outside-kept, outside-walkable, orphans-walked, level-le, reached-long, reached-zeros}
 use Rattle.enumerate.specs.EnumerateLaws.{rows-kept}
