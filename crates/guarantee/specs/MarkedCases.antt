@@ -18,7 +18,7 @@ use Rattle.options.specs.declared.Depth.the-variants.{None, Limit}
 use Rattle.image.specs.Layout.{bodyOf, bodiesOf}
 use Rattle.image.specs.Sample.{printed, listing, listingWords}
 use Rattle.paths.specs.Rows.{parentZero}
-use Rattle.paths.specs.Cases.{sample}
+use Rattle.paths.specs.Sample.{sample}
 use Rattle.navigate.specs.Navigate.{descendantsAnswer, descendantsOut}
 use Rattle.navigate.specs.Climb.{ancestorsAnswer, ancestorsOut}
 use Rattle.sums.specs.Sums.{subtreeAnswer}

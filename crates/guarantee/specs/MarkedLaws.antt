@@ -25,7 +25,7 @@ use Rattle.paths.specs.Rows.{parentZero}
 use Rattle.paths.specs.Nodes.{sorted, starts, regular, orphanRows, tops, orphans, orphanNodes, nodes}
 use Rattle.paths.specs.Bodies.{bodies, leftRows, leftOf, runningTotals}
 use Rattle.paths.specs.Refusals.{refusalOf}
-use Rattle.paths.specs.Cases.{sample}
+use Rattle.paths.specs.Sample.{sample}
 use Rattle.navigate.specs.Navigate.{badRank, badSpan, descendantList, descendantsAnswer, descendantsOut}
 use Rattle.navigate.specs.Climb.{climbFrom, stuckFrom, ancestorsAnswer, ancestorsOut}
 use Rattle.sums.specs.Sums.{beyond, subtreeAnswer}
