@@ -32,7 +32,7 @@ falling-falls (suc n) = ((λ y m. omega (arith, falling-out n y m)), falling-fal
 
 -- ---- sums
 
-pub sum-map : {A B : Type 0} (f : B → ℤ) (g : A → B) (l : List A) → sum f (map g l) ≡ sum (λ x. f (g x)) l
+sum-map : {A B : Type 0} (f : B → ℤ) (g : A → B) (l : List A) → sum f (map g l) ≡ sum (λ x. f (g x)) l
 sum-map f g [] = refl
 sum-map f g (x ∷ l) = ap (λ z. f (g x) +ℤ z) (sum-map f g l)
 
