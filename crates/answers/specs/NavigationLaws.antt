@@ -14,7 +14,7 @@ use Rattle.lists.specs.MemberLaws.{filter-out}
 use Rattle.image.specs.declared.Body.{Body}
 use Rattle.image.specs.Layout.{levelAt}
 use Rattle.image.specs.ImageLayer.{HoldsImage}
-use Rattle.navigate.specs.Navigate.{within, rankDistance}
+use Rattle.navigate.specs.Navigate.{within, distance}
 use Rattle.navigate.specs.Climb.{chain, ancestorList, ancestorsAnswer}
 use Rattle.sums.specs.HeldLaws.{HoldsTotals}
 use Rattle.forest.specs.Nodes.{nodeAt, begins, falling}
@@ -59,9 +59,9 @@ module _ {W : List (List ℕ)} (g : Forest W) {bs : List Body} (b : Described W 
     level = level-here g b short h rank (in-list .0) (in-list .1)
 
     -- every ancestor begins the node
-    distance-here : (k : ℕ) → k ∈ ancestorList s rank lower upper → rankDistance s rank k ≤ℤ pos 0
+    distance-here : (k : ℕ) → k ∈ ancestorList s rank lower upper → distance s rank k ≤ℤ pos 0
     distance-here k m =
-        let c = filter-out (λ k. within lower upper (rankDistance s rank k)) (chain s rank) k m .0 in
+        let c = filter-out (λ k. within lower upper (distance s rank k)) (chain s rank) k m .0 in
         let o = filter-out (λ i. begins (nodeAt W i) (nodeAt W rank)) (falling (length W)) k (subst (λ l. k ∈ l) (chain-here g b short small h rank (in-list .0) (in-list .1)) c) in
         let i = falling-out (length W) k (o .0) in
         at-most-zero (levelAt s k) (levelAt s rank) (omega (arith, level, level-here g b short h k (i .0) (i .1), begins-length (nodeAt W k) (nodeAt W rank) (o .1)))

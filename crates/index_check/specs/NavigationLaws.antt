@@ -16,7 +16,7 @@ use Rattle.lists.specs.MemberLaws.{filter-in, filter-out, filter-all, numbers-i
 use Rattle.lists.specs.RangeLaws.{limits-negate}
 use Rattle.lists.specs.SignedLaws.{mag-sub}
 use Rattle.image.specs.Layout.{nodeCount, sizeAt, parentAt, rootAt, levelAt}
-use Rattle.navigate.specs.Navigate.{badRank, badSpan, endOf, spanRefusal, within, rankDistance, descendantList}
+use Rattle.navigate.specs.Navigate.{badRank, badSpan, endOf, spanRefusal, within, distance, descendantList}
 use Rattle.navigate.specs.Climb.{chain, badClimb, climbRefusal, ancestorList, ancestorsAnswer}
 use Rattle.navigate.specs.ClimbLaws.{chain-step, chain-done, stuck-step, stuck-done}
 use Rattle.index_check.specs.IndexCheck.{contains, accepts}
@@ -25,9 +25,9 @@ use Rattle.index_check.specs.CheckLaws.{Nested, accepted-good, accepted-
 
 -- ---- distances
 
-turned : (s : List ℕ) (lo hi : ℤ) (r k : ℕ) → within lo hi (rankDistance s r k) ≡ within (negℤ hi) (negℤ lo) (rankDistance s k r)
+turned : (s : List ℕ) (lo hi : ℤ) (r k : ℕ) → within lo hi (distance s r k) ≡ within (negℤ hi) (negℤ lo) (distance s k r)
 turned s lo hi r k =
-    limits-negate lo hi (rankDistance s r k)
+    limits-negate lo hi (distance s r k)
     ∙ ap (within (negℤ hi) (negℤ lo))
     (negℤ-+ℤ (pos (levelAt s k)) (negℤ (pos (levelAt s r)))
     ∙ ap (λ (x : ℤ). negℤ (pos (levelAt s k)) +ℤ x) (negℤ-negℤ (pos (levelAt s r)))
@@ -44,16 +44,16 @@ in-widest : (z : ℤ) → mag z ≤ 2147483647 → within lowest highest z ≡ t
 in-widest (pos n) h = le-leb n 2147483647 h
 in-widest (negsuc n) h = ap (λ (t : Bool). t && true) (le-leb n 2147483647 h)
 
-level-near : (s : List ℕ) (r k : ℕ) → within lowest highest (rankDistance s r k) ≡ true
-level-near s r k = in-widest (rankDistance s r k) (omega (arith, mag-sub (levelAt s k) (levelAt s r)))
+level-near : (s : List ℕ) (r k : ℕ) → within lowest highest (distance s r k) ≡ true
+level-near s r k = in-widest (distance s r k) (omega (arith, mag-sub (levelAt s k) (levelAt s r)))
 
 -- every rank of the span is within the widest limits, and every rank of the chain
 pub descendants-all : (s : List ℕ) (r : ℕ) → descendantList s r lowest highest ≡ numbers r (sizeAt s r)
 unfolding descendantList
-descendants-all s r = filter-all (λ k. within lowest highest (rankDistance s r k)) (numbers r (sizeAt s r)) (λ k m. subst T (sym (level-near s r k)) tt)
+descendants-all s r = filter-all (λ k. within lowest highest (distance s r k)) (numbers r (sizeAt s r)) (λ k m. subst T (sym (level-near s r k)) tt)
 
 pub ancestors-all : (s : List ℕ) (k : ℕ) → ancestorList s k lowest highest ≡ chain s k
-ancestors-all s k = filter-all (λ r. within lowest highest (rankDistance s k r)) (chain s k) (λ r m. subst T (sym (level-near s k r)) tt)
+ancestors-all s k = filter-all (λ r. within lowest highest (distance s k r)) (chain s k) (λ r m. subst T (sym (level-near s k r)) tt)
 
 module _ (s : List ℕ) (accepted : accepts s ≡ true) where
   -- ---- nothing is refused but for the rank or the room
@@ -151,15 +151,15 @@ module _ (s : List ℕ) (accepted : accepts s ≡ true) where
   unfolding descendantList
   listed-both-ways r k h low b lo hi = (
     (λ m.
-        let f = filter-out (λ i. within lo hi (rankDistance s r i)) (numbers r (sizeAt s r)) k m in
+        let f = filter-out (λ i. within lo hi (distance s r i)) (numbers r (sizeAt s r)) k m in
         let n = numbers-out r (sizeAt s r) k (f .0) in
-        filter-in (λ i. within (negℤ hi) (negℤ lo) (rankDistance s k i)) (chain s k) r
+        filter-in (λ i. within (negℤ hi) (negℤ lo) (distance s k i)) (chain s k) r
         (contains-is-chain r k h low b .0 (contains-yes s r k (n .0) (n .1)))
         (subst T (turned s lo hi r k) (f .1))),
     (λ m.
-        let f = filter-out (λ i. within (negℤ hi) (negℤ lo) (rankDistance s k i)) (chain s k) r m in
+        let f = filter-out (λ i. within (negℤ hi) (negℤ lo) (distance s k i)) (chain s k) r m in
         let n = contains-out s r k (contains-is-chain r k h low b .1 (f .0)) in
-        filter-in (λ i. within lo hi (rankDistance s r i)) (numbers r (sizeAt s r)) k
+        filter-in (λ i. within lo hi (distance s r i)) (numbers r (sizeAt s r)) k
         (numbers-in r (sizeAt s r) k (n .0) (n .1))
         (subst T (sym (turned s lo hi r k)) (f .1))),
   )

@@ -8,7 +8,7 @@ use lib.IntN.{ℤ}
 use Rattle.lists.specs.Lists.{filter}
 use Rattle.lists.specs.Choice.{firstOf}
 use Rattle.image.specs.Layout.{parentAt}
-use Rattle.navigate.specs.Navigate.{rankRefusal, within, rankDistance, listRefusal, listOut}
+use Rattle.navigate.specs.Navigate.{rankRefusal, within, distance, listRefusal, listOut}
 use Rattle.navigate.specs.declared.Climbed.{Climbed}
 
 -- the ranks met, up to rank 0 or to one whose parent rank is not below it; `fuel` bounds their number, and the rank itself is enough
@@ -33,7 +33,7 @@ climbRefusal s rank = firstOf (rankRefusal s rank) (cond (badClimb s rank) 15 0)
 
 -- ancestors: those of the chain within the limits
 abbrev pub ancestorList : List ℕ → ℕ → ℤ → ℤ → List ℕ
-ancestorList s rank lo hi = filter (λ k. within lo hi (rankDistance s rank k)) (chain s rank)
+ancestorList s rank lo hi = filter (λ k. within lo hi (distance s rank k)) (chain s rank)
 
 -- the result of a climb: the length of its list, and the parent links followed, those to rank 0 not counted
 abbrev pub climbAnswer : ℕ → List ℕ → List ℕ → List ℕ → Climbed

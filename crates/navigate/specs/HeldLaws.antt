@@ -15,7 +15,7 @@ use Rattle.image.specs.Layout.{nodeCount, sizeAt, levelAt}
 use Rattle.image.specs.ImageLaws.{node-count-read, contents-hold, size-read, level-read}
 use Rattle.image.specs.ImageLayer.{HoldsImage}
 use Rattle.image.specs.declared.Body.{Body}
-use Rattle.navigate.specs.Navigate.{badRank, badSpan, endOf, rankRefusal, spanRefusal, within, rankDistance, descendantList}
+use Rattle.navigate.specs.Navigate.{badRank, badSpan, endOf, rankRefusal, spanRefusal, within, distance, descendantList}
 
 -- the body of a rank
 abbrev pub nth : List Body → Body → ℕ → Body
@@ -74,7 +74,7 @@ module _ {s : List ℕ} {bs : List Body} (h : HoldsImage s bs) where
             ≡ filter (λ k. within lo hi (pos (nth bs d k .level) -ℤ pos (nth bs d rank .level))) (numbers rank (nth bs d rank .size))
         unfolding descendantList
         descendants-held =
-            ap (λ (n : ℕ). filter (λ k. within lo hi (rankDistance s rank k)) (numbers rank n)) (size-read h rank d low high)
+            ap (λ (n : ℕ). filter (λ k. within lo hi (distance s rank k)) (numbers rank n)) (size-read h rank d low high)
             ∙ filter-agree _ _ (numbers rank (nth bs d rank .size))
             (λ k m.
             let o = numbers-out rank (nth bs d rank .size) k m in

@@ -38,12 +38,12 @@ abbrev pub within : ℤ → ℤ → ℤ → Bool
 within lo hi distance = leZ lo distance && leZ distance hi
 
 -- distance: the listed node's level less that of the rank given
-abbrev pub rankDistance : List ℕ → ℕ → ℕ → ℤ
-rankDistance s rank k = pos (levelAt s k) -ℤ pos (levelAt s rank)
+abbrev pub distance : List ℕ → ℕ → ℕ → ℤ
+distance s rank k = pos (levelAt s k) -ℤ pos (levelAt s rank)
 
 -- descendants: ranks of the span within the limits, rising
 unfoldable pub descendantList : List ℕ → ℕ → ℤ → ℤ → List ℕ
-descendantList s rank lo hi = filter (λ k. within lo hi (rankDistance s rank k)) (numbers rank (sizeAt s rank))
+descendantList s rank lo hi = filter (λ k. within lo hi (distance s rank k)) (numbers rank (sizeAt s rank))
 
 -- siblings: all ranks with the same parent rank, rising
 unfoldable pub siblingList : List ℕ → ℕ → List ℕ

@@ -6,7 +6,7 @@ use mathlib.Core.Path.{_≡_, sym, ap, _∙_}
 use borrow.Author.Needs.{needs}
 use Rattle.lists.specs.Lists.{filter, numbers}
 use Rattle.image.specs.declared.Body.{Body}
-use Rattle.navigate.specs.Navigate.{spanRefusal, within, rankDistance, descendantList, listAnswer, listOut}
+use Rattle.navigate.specs.Navigate.{spanRefusal, within, distance, descendantList, listAnswer, listOut}
 use Rattle.navigate.specs.NavigateLaws.{Span, span}
 use Rattle.navigate.specs.NavigateLayer.{keepsAt}
 use Rattle.navigate.specs.declared.Listed.{Listed}
@@ -65,11 +65,11 @@ returns-2 c =
     let z = ap (λ (b : Body). b .size) (body .ensures) in (
       p .0
           ∙ ap (λ (b : Keep). listAnswer 0 (filter (keepsAt s b) (numbers (x .rank) (body .result .size))) (now (x .out))) k
-          ∙ ap (λ (n : ℕ). listAnswer 0 (filter (λ k. within (x .lo) (x .hi) (rankDistance s (x .rank) k)) (numbers (x .rank) n)) (now (x .out))) z
+          ∙ ap (λ (n : ℕ). listAnswer 0 (filter (λ k. within (x .lo) (x .hi) (distance s (x .rank) k)) (numbers (x .rank) n)) (now (x .out))) z
           ∙ ap (λ (q : ℕ). listAnswer q (descendantList s (x .rank) (x .lo) (x .hi)) (now (x .out))) (sym (none e)),
       p .1
           ∙ ap (λ (b : Keep). listOut 0 (filter (keepsAt s b) (numbers (x .rank) (body .result .size))) (now (x .out))) k
-          ∙ ap (λ (n : ℕ). listOut 0 (filter (λ k. within (x .lo) (x .hi) (rankDistance s (x .rank) k)) (numbers (x .rank) n)) (now (x .out))) z
+          ∙ ap (λ (n : ℕ). listOut 0 (filter (λ k. within (x .lo) (x .hi) (distance s (x .rank) k)) (numbers (x .rank) n)) (now (x .out))) z
           ∙ ap (λ (q : ℕ). listOut q (descendantList s (x .rank) (x .lo) (x .hi)) (now (x .out))) (sym (none e)),
     )
 
