@@ -1,12 +1,12 @@
 -- Loads that are stopped, and loads of some bytes. Assumes nothing.
 use Prim.Native.Nat.{ℕ}
 use mathlib.Core.Path.{_≡_, refl, sym, ap, _∙_}
-use mathlib.Core.Bool.{Bool, true, false, cond, not, _||_}
+use mathlib.Core.Bool.{Bool, true, false, not, _||_}
 use mathlib.Core.List.{List, [], _++_}
 use lib.Dec.{eqb}
 use borrow.Author.Tests.{eq-eqb, ne-eqb}
 use Rattle.listing.specs.declared.Load.{Load}
-use Rattle.listing.specs.Loading.{startOf, stopped, goesOn, feedOf, endOf}
+use Rattle.listing.specs.Loading.{startOf, stopped, feedOf, endOf}
 use Rattle.listing.specs.OutcomeLaws.{feed-chunks}
 use Rattle.streams.specs.Reading.{Fed, OfText}
 
@@ -28,14 +28,10 @@ module _ (l : Load) where
   unfolding endOf
   end-stopped h = rw h
 
-  gone-on : (t : Bool) → l ≡ cond t l (goesOn l (l .scan))
-  gone-on true = refl
-  gone-on false = refl
-
   -- no byte changes nothing
   pub fed-nothing : (m : Load) → m ≡ l → Fed l m
   unfolding feedOf
-  fed-nothing m e = record { bytes = []; load = e ∙ gone-on (stopped l) }
+  fed-nothing m e = record { bytes = []; load = e }
 
   pub fed-more : (m n : Load) → Fed l m → Fed m n → Fed l n
   fed-more m n f g = record { bytes = f .bytes ++ g .bytes; load = g .load ∙ ap (λ (k : Load). feedOf k (g .bytes)) (f .load) ∙ feed-chunks l (f .bytes) (g .bytes) }
