@@ -16,11 +16,11 @@ import re
 import sys
 
 # The crates whose public functions are the product's calls: what their contracts cite is followed.
-ENTRIES = "board history build navigate sums index_check guarantee exports lines printing listing streams numerals"
+ENTRIES = "board history build navigate sums index_check guarantee flowpewter lines printing listing streams numerals"
 
 # The theorems whose statements are followed.
 THEOREMS = {
-    "guarantee": "guarantee marked-cases built-accepted",
+    "guarantee": "guarantee sound-build marked-cases built-accepted built-distances built-links",
     "history": "simulation",
     "listing": "listing-outcome",
 }

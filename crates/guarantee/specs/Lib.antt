@@ -7,5 +7,5 @@ pub mod GuaranteeLaws
 pub mod BuiltIndexLaws
 pub mod Running
 pub mod RunningLaws
-pub mod MarkedCases
+pub mod Marked
 pub mod MarkedLaws

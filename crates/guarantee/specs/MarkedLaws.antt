@@ -18,8 +18,8 @@ use Rattle.options.specs.declared.Depth.{Depth}
 use Rattle.options.specs.declared.Depth.the-variants.{None, Limit}
 use Rattle.options.specs.Options.{levelLimit}
 use Rattle.image.specs.Layout.{badContents, bodyWords, flat, checked, contentsWords, imageWords, bodyOf, bodiesOf}
-use Rattle.image.specs.Sample.{listing, listingTotals}
-use Rattle.image.specs.SampleCases.{listing-words}
+use Rattle.image.specs.Sample.{listing}
+use Rattle.image.specs.SampleCases.{listingTotals, listing-words}
 use Rattle.paths.specs.Forest.{forest}
 use Rattle.paths.specs.Rows.{parentZero}
 use Rattle.paths.specs.Nodes.{sorted, starts, regular, orphanRows, tops, orphans, orphanNodes, nodes}
@@ -32,7 +32,7 @@ use Rattle.sums.specs.Sums.{beyond, subtreeAnswer}
 use Rattle.request.specs.declared.Built.{Built}
 use Rattle.request.specs.Build.{buildRefusal, builtOf, indexAfter, totalsAfter}
 use Rattle.guarantee.specs.GuaranteeLaws.{answerOf, indexOf, totalsOf}
-use Rattle.guarantee.specs.MarkedCases.{lines, builtIndex, builtTotals, MarkedCases}
+use Rattle.guarantee.specs.Marked.{lines, builtIndex, builtTotals, MarkedCases}
 
 -- ---- the same build over rows
 

@@ -8,7 +8,8 @@ use borrow.Author.Tests.{eq-eqb, ne-eqb}
 use Rattle.listing.specs.declared.Load.{Load}
 use Rattle.listing.specs.Loading.{startOf, stopped, feedOf, endOf}
 use Rattle.listing.specs.OutcomeLaws.{feed-chunks}
-use Rattle.streams.specs.Reading.{Fed, OfText}
+use Rattle.streams.specs.Reading.{OfText}
+use Rattle.streams.specs.ReadingLayer.{Fed}
 
 or-true : (a b : Bool) → b ≡ true → a || b ≡ true
 or-true true b h = refl

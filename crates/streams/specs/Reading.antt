@@ -5,11 +5,6 @@ use mathlib.Core.List.{List}
 use Rattle.listing.specs.declared.Load.{Load}
 use Rattle.listing.specs.Loading.{startOf, feedOf, endOf}
 
--- the load m is l gone on with some bytes
-pub record Fed (l m : Load) : Type 0 where
-  pub bytes : List ℕ
-  pub load : m ≡ feedOf l bytes
-
 -- the load m is that of some whole text
 pub record OfText (m : Load) : Type 0 where
   pub text : List ℕ

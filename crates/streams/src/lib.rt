@@ -4,7 +4,8 @@ use libc::STDOUT_FILENO;
 use listing::Load;
 ghost use mathlib.Core.Path.{_≡_};
 ghost use Rattle.listing.specs.Loading.{stopped};
-ghost use Rattle.streams.specs.Reading.{Fed, OfText};
+ghost use Rattle.streams.specs.Reading.{OfText};
+ghost use Rattle.streams.specs.ReadingLayer.{Fed};
 
 // A load, and whether the input has ended.
 struct Reading {

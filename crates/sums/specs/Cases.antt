@@ -4,7 +4,8 @@ use mathlib.Core.List.{List, []}
 use Prim.Native.Nat.{ℕ}
 use lib.IntN.{ℤ, pos}
 use Rattle.image.specs.Layout.{bodyWords, flat, checked, contentsWords, imageWords, badContents}
-use Rattle.image.specs.Sample.{listing, listingTotals}
+use Rattle.image.specs.Sample.{listing}
+use Rattle.image.specs.SampleCases.{listingTotals}
 use Rattle.navigate.specs.Navigate.{badRank, badSpan}
 use Rattle.navigate.specs.Climb.{climbFrom, stuckFrom}
 use Rattle.sums.specs.Sums.{beyond, leaves32, badTotals, subtreeAnswer, pathAnswer}

@@ -1,7 +1,7 @@
 -- `streams::read_all` meets its contract: at each turn the load is that of the bytes so far. It ends, as it reads at most 2^64 - 1 times. Assumes nothing.
 use borrow.Author.Needs.{needs}
 use Rattle.listing.specs.Loading.{startOf}
-use Rattle.streams.specs.Reading.{Fed}
+use Rattle.streams.specs.ReadingLayer.{Fed}
 use Rattle.streams.proofs.Loads.{stopped-bad, stopped-refused, fed-nothing, fed-more, text-ended, text-stopped}
 use Rattle.streams.proofs.read_all.Statement.{statement}
 use Rattle.streams.proofs.read_all.Tie as tie
