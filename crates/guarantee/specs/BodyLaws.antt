@@ -117,7 +117,7 @@ module _ (R : List Row) (starts : Row → Bool) (depth : Depth) (o : Orphan) whe
   short few p m = omega (arith, node-bounded R starts depth o p (nodes-are R starts depth o p .0 m))
 
   -- and is what the words of an index say
-  module _ {s : List ℕ} (h : Holds s (bodies R starts depth o)) (few : length R ≤ 1024) (k : ℕ) (low : 1 ≤ k) (high : k ≤ length (nodes R starts depth o)) where
+  module _ {s : List ℕ} (h : HoldsImage s (bodies R starts depth o)) (few : length R ≤ 1024) (k : ℕ) (low : 1 ≤ k) (high : k ≤ length (nodes R starts depth o)) where
     body-here : (d : Body) → bodyOf s k ≡ getD (bodies R starts depth o) (k - 1) d
     body-here d =
         let l = bodies-length R starts depth o in
