@@ -6,7 +6,6 @@ use lines::Scan;
 use lines::Step;
 use printing::Columns;
 ghost use mathlib.Core.Path.{_≡_};
-ghost use Rattle.image.specs.Layout.{bodyAt};
 ghost use Rattle.lines.specs.Text.{values};
 ghost use Rattle.listing.specs.Nodes.{columnsOf};
 ghost use Rattle.listing.specs.Loading.{startOf, enterOf, isBad, feedOf, endOf};
@@ -125,32 +124,29 @@ pub fn feed(load: Load, chunk: &[u8]) -> Load
     now
 }
 
-// Where the body of a rank begins.
-fn body_at(rank: u32) -> usize
-    ensures { λ r. ⌜ r ≡ bodyAt rank ⌝ }
-{
-    if rank == 0 {
-        return 8;
-    }
-    8 + 6 * ((rank - 1) as usize)
-}
-
 // What is printed of the node of a rank.
 pub fn columns(index: &[u32], totals: &[i64], rank: u32) -> Columns
     ensures { λ r. ⌜ r ≡ columnsOf (now (index .entry)) (now (totals .entry)) rank ⌝ }
 {
-    let at = body_at(rank);
-    let word = lists::get(index, at + 5);
+    let at = rank as usize;
+    let word = image::word_at(index, at);
+    let size = image::size_at(index, at);
+    let parent = image::parent_at(index, at);
+    let level = image::level_of(word);
+    let root = image::root_at(index, at);
+    let closing = image::closing_of(word);
+    let orphan = image::orphan_of(word);
+    let numeral = image::numeral_at(index, at);
     let summed = sums::subtree_sum(index, totals, rank);
     Columns {
         rank,
-        size: lists::get(index, at + 2),
-        parent: lists::get(index, at + 3),
-        level: image::level_of(word),
-        root: lists::get(index, at + 4),
-        closing: image::closing_of(word),
-        orphan: image::orphan_of(word),
-        numeral: lists::get(index, at),
+        size,
+        parent,
+        level,
+        root,
+        closing,
+        orphan,
+        numeral,
         sum: summed.sum,
     }
 }
