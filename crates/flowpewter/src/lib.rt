@@ -144,11 +144,10 @@ pub extern "C" fn flowpewter_span(index: &[u32], rank: u32) -> Span
             words: 0,
         };
     }
-    let start = 8 + 6 * (rank as usize - 1);
-    let size = lists::get(index, start + 2) as usize;
+    let size = image::size_at(index, rank as usize) as usize;
     Span {
         refusal: 0,
-        start,
+        start: image::body_at(rank as usize),
         words: 6 * size,
     }
 }
