@@ -20,7 +20,7 @@ ENTRIES = "board history build navigate sums index_check guarantee flowpewter li
 
 # The theorems whose statements are followed.
 THEOREMS = {
-    "guarantee": "guarantee sound-build marked-cases built-accepted built-distances built-links",
+    "guarantee": "guarantee sound-build unsound-build marked-cases built-accepted built-distances built-links",
     "history": "simulation",
     "listing": "listing-outcome",
 }

@@ -47,7 +47,7 @@ fn same_board(a: Board, b: Board) -> bool {
 }
 
 // The board after some calls, how many of them were accepted, and the number of the last.
-struct Ran {
+struct AfterCalls {
     board: Board,
     accepted: u32,
     refusal: u32,
@@ -60,8 +60,8 @@ fn accepted(before: u32, refusal: u32) -> u32 {
     if before < 65535 { before + 1 } else { before }
 }
 
-fn adds(start: Board, n: usize) -> Ran {
-    let mut ran = Ran {
+fn adds(start: Board, n: usize) -> AfterCalls {
+    let mut ran = AfterCalls {
         board: start,
         accepted: 0,
         refusal: 0,
@@ -71,7 +71,7 @@ fn adds(start: Board, n: usize) -> Ran {
         let board = ran.board;
         let edited = board.add(row(0, 7, 1, -3));
         let after = edited.board;
-        ran = Ran {
+        ran = AfterCalls {
             board: after,
             accepted: accepted(ran.accepted, edited.refusal),
             refusal: edited.refusal,
@@ -81,8 +81,8 @@ fn adds(start: Board, n: usize) -> Ran {
     ran
 }
 
-fn undos(start: Board, n: usize) -> Ran {
-    let mut ran = Ran {
+fn undos(start: Board, n: usize) -> AfterCalls {
+    let mut ran = AfterCalls {
         board: start,
         accepted: 0,
         refusal: 0,
@@ -92,7 +92,7 @@ fn undos(start: Board, n: usize) -> Ran {
         let board = ran.board;
         let edited = board.undo();
         let after = edited.board;
-        ran = Ran {
+        ran = AfterCalls {
             board: after,
             accepted: accepted(ran.accepted, edited.refusal),
             refusal: edited.refusal,

@@ -1,8 +1,8 @@
 -- Demand 3 of paper 01, whole: any list of calls from the empty board, then any build on the board they left, then any navigation and sum on what the build left; and the same of any build on
--- any sound board. These are definitions, in the words of "What demand 3 compares"; that they hold is `guarantee` and `sound-build` in GuaranteeLaws. Assumes nothing.
+-- any sound board; a build on any other is refused. These are definitions, in the words of "What demand 3 compares"; that they hold is `guarantee`, `sound-build` and `unsound-build` in GuaranteeLaws. Assumes nothing.
 use mathlib.Core.Path.{_≡_}
 use mathlib.Core.Logic.{_⊎_, _≢_}
-use mathlib.Core.Bool.{Bool, true}
+use mathlib.Core.Bool.{Bool, true, false}
 use mathlib.Core.List.{List, [], _∷_}
 use Prim.Native.Nat.{ℕ, _+_, _*_, _<_}
 use lib.Dec.{T}
@@ -30,7 +30,7 @@ use Rattle.answers.specs.Answers.{First, noOther}
 use Rattle.request.specs.declared.Start.{Start}
 use Rattle.request.specs.declared.Built.{Built}
 use Rattle.request.specs.Build.{startRule, builtOf, indexAfter, totalsAfter}
-use Rattle.guarantee.specs.Builds.{NodeKind, Shares, Build}
+use Rattle.guarantee.specs.Builds.{NodeKind, Shares, Refused, Build}
 
 -- ---- the nodes over the rows R, and what their bodies say
 
@@ -95,7 +95,7 @@ BuildOn b R fits = (code : ℕ) (depth : Depth) (rule : Start) (list index : Lis
     index (indexAfter b code depth (startRule rule list) index (length totals))
     totals (totalsAfter b code depth (startRule rule list) (length index) totals)
 
--- ---- every sound board, also one that no list of calls makes
+-- ---- every board, also one that no list of calls makes
 
 -- minutes are i32, as in every row that code can be handed: the definitions allow any integer, and totals of larger minutes could pass 2^47, sentence 15's bound
 abbrev pub RowsFit : List Row → Type 0
@@ -103,6 +103,14 @@ RowsFit R = (r : Row) → r ∈ R → SFits w32 (r .minutes)
 
 abbrev pub SoundBuild : Board → Type 0
 SoundBuild b = soundOf b ≡ true → BuildOn b (rowsOf b) (RowsFit (rowsOf b))
+
+-- "1. The board isn't sound.", before all other sentences
+abbrev pub UnsoundBuild : Board → Type 0
+UnsoundBuild b = soundOf b ≡ false → (code : ℕ) (depth : Depth) (rule : Start) (list index : List ℕ) (totals : List ℤ)
+    → (builtOf b code depth (startRule rule list) (length index) (length totals) .refusal ≡ 1)
+    × Refused (builtOf b code depth (startRule rule list) (length index) (length totals))
+    index (indexAfter b code depth (startRule rule list) index (length totals))
+    totals (totalsAfter b code depth (startRule rule list) (length index) totals)
 
 -- ---- demand 3
 

@@ -43,7 +43,7 @@ use Rattle.answers.specs.ZeroLaws.{zeros-refused}
 use Rattle.request.specs.declared.Built.{Built}
 use Rattle.request.specs.Build.{startRule, buildRefusal, builtOf, indexAfter, totalsAfter}
 use Rattle.guarantee.specs.Builds.{Accepted, Refused}
-use Rattle.guarantee.specs.Guarantee.{buildNodes, BuildRefusal, PathBuild, BuildOn, RowsFit, SoundBuild, Guarantee}
+use Rattle.guarantee.specs.Guarantee.{buildNodes, BuildRefusal, PathBuild, BuildOn, RowsFit, SoundBuild, UnsoundBuild, Guarantee}
 use Rattle.guarantee.specs.BodyLaws.{node-list, read-of, described, short}
 use Rattle.guarantee.specs.SentenceLaws.{first-sentence}
 use Rattle.guarantee.specs.MinutesLaws.{rows-fit}
@@ -65,21 +65,21 @@ module _ (R : List Row) (code : ℕ) (depth : Depth) (starts : Row → Bool) whe
   abbrev W : List (List ℕ)
   W = nodes R starts depth o
 
-  abbrev pub answerOf : ℕ → Bool → Built
-  answerOf q done = record { refusal = q; nodes = cond done (length W) 0; left = cond done (leftOf R starts depth o) 0 }
+  abbrev pub answerWhen : ℕ → Bool → Built
+  answerWhen q done = record { refusal = q; nodes = cond done (length W) 0; left = cond done (leftOf R starts depth o) 0 }
 
-  abbrev pub indexOf : List ℕ → Bool → List ℕ
-  indexOf index done = cond done (front (imageWords (bodies R starts depth o)) index) (replicate (length index) 0)
+  abbrev pub indexWhen : List ℕ → Bool → List ℕ
+  indexWhen index done = cond done (front (imageWords (bodies R starts depth o)) index) (replicate (length index) 0)
 
-  abbrev pub totalsOf : List ℤ → Bool → List ℤ
-  totalsOf totals done = cond done (front (runningTotals R W) totals) (replicate (length totals) (pos 0))
+  abbrev pub totalsWhen : List ℤ → Bool → List ℤ
+  totalsWhen totals done = cond done (front (runningTotals R W) totals) (replicate (length totals) (pos 0))
 
   module _ (few : length R ≤ 1024) (index : List ℕ) (totals : List ℤ) where
     abbrev indexBy : Bool → List ℕ
-    indexBy = indexOf index
+    indexBy = indexWhen index
 
     abbrev totalsBy : Bool → List ℤ
-    totalsBy = totalsOf totals
+    totalsBy = totalsWhen totals
 
     -- what is had where none of the sentences applies
     pub record Unrefused : Type 0 where
@@ -93,7 +93,7 @@ module _ (R : List Row) (code : ℕ) (depth : Depth) (starts : Row → Bool) whe
         let t = accepted R code depth starts (length index) (length totals) e in
         record { allowed = allowed-here depth (orphanOf code) (t .sentence7); small = omega (arith, ltb-false 65535 n (or-no (ltb 65535 n) _ (t .sentence9) .0)) }
 
-    zeroed : (q : ℕ) → Refused (answerOf q false) index (indexBy false) totals (totalsBy false)
+    zeroed : (q : ℕ) → Refused (answerWhen q false) index (indexBy false) totals (totalsBy false)
     zeroed q = record { n = refl; left = refl; zero-index = refl; zero-totals = refl; navigation = zeros-refused (length index) (replicate (length totals) (pos 0)) }
 
     left-increasing : Increasing _<_ (leftRows R starts depth o)
@@ -111,7 +111,7 @@ module _ (R : List Row) (code : ℕ) (depth : Depth) (starts : Row → Bool) whe
     unfolding runningTotals
     running = record { rest = drop (length (runningTotals R W)) totals; is = front-is (runningTotals R W) totals }
 
-    written : (q : ℕ) → Unrefused → Accepted (buildNodes R code depth starts) W (answerOf q true) index (indexBy true) totals (totalsBy true)
+    written : (q : ℕ) → Unrefused → Accepted (buildNodes R code depth starts) W (answerWhen q true) index (indexBy true) totals (totalsBy true)
     unfolding runningTotals
     written q r = record {
       n = refl;
@@ -126,13 +126,13 @@ module _ (R : List Row) (code : ℕ) (depth : Depth) (starts : Row → Bool) whe
     }
 
     build-of : (fits : Type 0) → (fits → RowsFit R) → (q : ℕ) → q ≡ refusalOf R code depth starts (length index) (length totals)
-        → PathBuild R code depth starts fits (answerOf q (eqb q 0)) index (indexBy (eqb q 0)) totals (totalsBy (eqb q 0))
+        → PathBuild R code depth starts fits (answerWhen q (eqb q 0)) index (indexBy (eqb q 0)) totals (totalsBy (eqb q 0))
     build-of fits f q e = record {
       W = W;
       nodes = node-list R starts depth o;
       refusal = subst (BuildRefusal R code depth starts (length index) (length totals) W) (sym e) (first-sentence R code depth starts (length index) (length totals));
-      refused = λ n. subst (λ t. Refused (answerOf q t) index (indexBy t) totals (totalsBy t)) (sym (ne-eqb q 0 n)) (zeroed q);
-      accepted = λ z. subst (λ t. Accepted (buildNodes R code depth starts) W (answerOf q t) index (indexBy t) totals (totalsBy t)) (sym (eq-eqb q 0 z)) (written q (unrefused (sym e ∙ z)));
+      refused = λ n. subst (λ t. Refused (answerWhen q t) index (indexBy t) totals (totalsBy t)) (sym (ne-eqb q 0 n)) (zeroed q);
+      accepted = λ z. subst (λ t. Accepted (buildNodes R code depth starts) W (answerWhen q t) index (indexBy t) totals (totalsBy t)) (sym (eq-eqb q 0 z)) (written q (unrefused (sym e ∙ z)));
       navigation = λ z. let r = unrefused (sym e ∙ z) in
           subst (λ t. Navigation (minutesOf R) W fits (indexBy t) (totalsBy t)) (sym (eq-eqb q 0 z))
           (navigation-here (nodes-forest R starts depth o) (described R starts depth o (r .allowed)) (short R starts depth o few) (r .small) held
@@ -152,6 +152,18 @@ build-on b sound fits f code depth rule list index totals =
 
 pub sound-build : (b : Board) → SoundBuild b
 sound-build b sound = build-on b sound (RowsFit (rowsOf b)) (λ f. f)
+
+-- ---- a build on a board that isn't sound
+
+pub unsound-build : (b : Board) → UnsoundBuild b
+unfolding buildRefusal builtOf indexAfter totalsAfter
+unsound-build b unsound code depth rule list index totals =
+    let R = rowsOf b in
+    let q = refusalOf R code depth (startRule rule list) (length index) (length totals) in
+    subst (λ t. let n : ℕ = cond t q 1 in
+    (n ≡ 1) × Refused (answerWhen R code depth (startRule rule list) n (eqb n 0)) index (indexWhen R code depth (startRule rule list) index (eqb n 0)) totals (totalsWhen R code depth (startRule rule list) totals (eqb n 0)))
+    (sym unsound)
+    (refl, record { n = refl; left = refl; zero-index = refl; zero-totals = refl; navigation = zeros-refused (length index) (replicate (length totals) (pos 0)) })
 
 -- ---- every list of calls
 

@@ -186,7 +186,7 @@ module _ (b : Board) (v : Valid b) where
         (simp (q₂, many b v, q₃) (state-change b v entry-add (rowsOf b ++ (r ∷ [])) s w there-add back-add))
         (valid-change b v entry-add (rowsOf b ++ (r ∷ [])) s w there-add back-add)
 
-  -- ---- a row that is isThere
+  -- ---- a row that is there
   module _ (k : ℕ) (inside : k < b .count) where
     old : Row
     old = getD (b .rows) k blank

@@ -36,7 +36,7 @@ fn root_of(root: u32, rank: u32) -> u32
     if root == 0 { rank } else { root }
 }
 
-// Whether the path that ends in the row at p classMarked.
+// Whether the path that ends in the row at p is closing.
 fn closing(p: u32, table: &[u32], marks: &[u32]) -> bool
     ensures { λ r. ⌜ r ≡ classMarked (classColumn (now (table .entry))) p (now (marks .entry)) ⌝ }
 {
