@@ -26,6 +26,13 @@ fn tree() -> Vec<Row> {
     (1..=1_024).map(|number| Row::new(number / 2, number, number * 7 % 13, 1)).collect()
 }
 
+/// The tree, with a parent for its root that no row has: all rows are orphans.
+fn orphaned_tree() -> Vec<Row> {
+    let mut rows = tree();
+    rows[0].parent = 5_000;
+    rows
+}
+
 fn chain() -> Vec<Row> {
     (1..=1_024).map(|number| Row::new(number - 1, number, 1, 1)).collect()
 }
@@ -189,6 +196,7 @@ fn main() {
     let wide_time = builds("build, wide", &wide(), 0, 1);
     let tree_time = builds("build, tree", &tree(), 0, 20);
     builds("build, tree, orphans as roots", &tree(), 3, 20);
+    builds("build, tree of orphans", &orphaned_tree(), 3, 20);
     builds("build, chain", &chain(), 0, 20);
     builds("build, leaf roots", &leaves(), 0, 20);
     builds("build, cyclic", &cyclic(), 0, 20);
