@@ -12,7 +12,6 @@ use Rattle.lists.specs.ChoiceLaws.{and-yes}
 use Rattle.lists.specs.Lists.{allTo}
 use Rattle.lists.specs.RangeLaws.{all-at}
 use Rattle.image.specs.Layout.{nodeCount, sizeAt, parentAt, rootAt, levelAt, badContents}
-use Rattle.image.specs.ImageLaws.{Contents, contents}
 use Rattle.navigate.specs.Navigate.{endOf}
 use Rattle.index_check.specs.IndexCheck.{contains, zerosRight, checkRight, sizeRight, endRight, levelRight, rootRight, rankRight, accepts}
 use Rattle.index_check.specs.RankLaws.{Right, right, contains-yes, contains-out, parent-below, parent-largest}
@@ -79,9 +78,6 @@ module _ (s : List ℕ) (accepted : accepts s ≡ true) where
 
   pub accepted-good : badContents s ≡ false
   accepted-good = accepted-parts .0
-
-  pub accepted-contents : Contents s
-  accepted-contents = contents s (accepted-parts .0)
 
   pub accepted-rank : (k : ℕ) → 1 ≤ k → k ≤ nodeCount s → Right s k
   accepted-rank k h b = right s k (all-at (rankRight s) (nodeCount s) k (accepted-parts .1) h b)

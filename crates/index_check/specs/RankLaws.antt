@@ -9,7 +9,7 @@ use lib.Dec.{ltb, leb}
 use borrow.Author.Tests.{ltb-true, lt-ltb, leb-true, le-leb, eqb-true}
 use Rattle.lists.specs.ChoiceLaws.{and-yes}
 use Rattle.lists.specs.Lists.{largestTo}
-use Rattle.lists.specs.RangeLaws.{largest-here, largest-le, largest-holds, largest-above, largest-below}
+use Rattle.lists.specs.RangeLaws.{largest-here, largest-le, largest-above, largest-below}
 use Rattle.image.specs.Layout.{sizeAt, parentAt, badContents, contentsRefusal}
 use Rattle.index_check.specs.IndexCheck.{contains, parentOf, sizeRight, endRight, parentRight, levelRight, rootRight, bitsRight, rankRight}
 
@@ -64,13 +64,6 @@ module _ (s : List ℕ) where
   pub parent-largest : (r k : ℕ) → parentRight s k ≡ true → r < k → k < r + sizeAt s r → r ≤ parentAt s k
   parent-largest r k e a b =
       omega (arith, parent-is k e, largest-above (λ m. contains s m k) (k - 1) r (omega arith) (contains-yes r k (omega arith) b))
-
-  -- the interval of the parent contains the rank
-  pub parent-contains : (k : ℕ) → parentRight s k ≡ true → 0 < parentAt s k → k < parentAt s k + sizeAt s (parentAt s k)
-  parent-contains k e h =
-      let q = parent-is k e in
-      let p : contains s (parentOf s k) k ≡ true = largest-holds (λ m. contains s m k) (k - 1) (omega arith) in
-      contains-out (parentAt s k) k (ap (λ (r : ℕ). contains s r k) q ∙ p) .1
 
   -- the climb stops where the interval contains k
   pub climb-here : (k j : ℕ) → 0 < j → j < k → k < j + sizeAt s j → largestTo (λ r. contains s r k) j ≡ j

@@ -106,7 +106,7 @@ line-row s a n o m l =
     ∙ space-2 a n 0 o z (l .orders .width)
     ∙ minutes-read a n o z m (l .minute)
 
--- ---- the scan of a line ends in a row or in no row
+-- ---- the end of a line gives a row or none
 
 abbrev pub Settled : Step → Type 0
 Settled (More q) = ⊥
@@ -125,15 +125,6 @@ settled-tests true true false h false a n o x y = tt
 pub finish-settled : (p : Scan) → Settled (finishOf p)
 finish-settled p =
     settled-tests (eqb (p .field) 3) (p .digits) (p .minus) (ltb 2147483648 (p .value)) (ltb 2147483647 (p .value)) (p .parent) (p .numeral) (p .order) (negℤ (pos (p .value))) (pos (p .value))
-
-settled-onward : (r : Step) (k : Scan → Step) → ((q : Scan) → Settled (k q)) → Settled (onward r k)
-settled-onward (More q) k h = h q
-settled-onward (Row a n o m) k h = tt
-settled-onward Bad k h = tt
-
-pub scan-settled : (s : List ℕ) (p : Scan) → Settled (scanned p s)
-scan-settled [] p = finish-settled p
-scan-settled (b ∷ s) p = settled-onward (stepOf p b) (λ q. scanned q s) (scan-settled s)
 
 -- ---- what is read as a row is a well-formed line
 
@@ -362,14 +353,6 @@ module _ (a n o : ℕ) (m : ℤ) where
         orders = number (e₂ .field) o (some-of (e₂ .field) (e₂ .some)) (e₂ .digits) (e₂ .width) (e₃ .order);
         minute = e₃ .minute;
       }
-
-pub line-bad : (s : List ℕ) → (10 ∈ s → ⊥) → ((a n o : ℕ) (m : ℤ) → Line s a n o m → ⊥) → lineOf s ≡ Bad
-line-bad s x h = go (lineOf s) refl (scan-settled s fresh)
-  where
-    go : (r : Step) → lineOf s ≡ r → Settled r → r ≡ Bad
-    go (More q) e t = absurd t
-    go (Row a n o m) e t = absurd (h a n o m (row-line a n o m s x e))
-    go Bad e t = refl
 
 pub bad-line : (s : List ℕ) → lineOf s ≡ Bad → (a n o : ℕ) (m : ℤ) → Line s a n o m → ⊥
 bad-line s e a n o m l = no-row a n o m (sym e ∙ line-row s a n o m l)

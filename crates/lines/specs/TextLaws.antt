@@ -3,7 +3,7 @@ use Prim.Native.Nat.{ℕ, _+_, _*_, _-_, _%_, _<_, _≤_}
 use native.Mathlib.Omega.{arith}
 use mathlib.Core.Path.{_≡_, refl, sym, ap, ap₂, subst, _∙_}
 use mathlib.Core.Logic.{inl, inr, ⊎-elim, _≢_}
-use mathlib.Core.Bool.{Bool, true, false, cond, _&&_}
+use mathlib.Core.Bool.{Bool, true, false, cond, and-false}
 use mathlib.Core.List.{List, [], _∷_, _++_, append-assoc, append-nil}
 use lib.Dec.{ltb, eqb}
 use lib.IntN.{ℤ}
@@ -122,10 +122,6 @@ abbrev Quiet : Step → Type 0
 Quiet (More q) = blankOf q ≡ false
 Quiet (Row a n o m) = ⊥
 Quiet Bad = Unit {0}
-
-and-false : (t : Bool) → t && false ≡ false
-and-false true = refl
-and-false false = refl
 
 quiet-space : (d f g h : Bool) (a n o v : ℕ)
     → Quiet (cond d (cond f (More (starting 1 v n o)) (cond g (More (starting 2 a v o)) (cond h (More (starting 3 a n v)) Bad))) Bad)

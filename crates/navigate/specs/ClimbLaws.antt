@@ -84,8 +84,3 @@ module _ (s : List ℕ) where
 
   pub chain-le : (k : ℕ) → length (chain s k) ≤ k
   chain-le k = climb-le k k
-
-  pub chain-pos : (k : ℕ) → 0 < k → 1 ≤ length (chain s k)
-  unfolding climbFrom
-  chain-pos zero h = absurd (omega arith)
-  chain-pos (suc k) h = simp (ne-eqb (suc k) 0 (λ e. omega arith)) (omega arith)

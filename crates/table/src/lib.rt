@@ -135,20 +135,6 @@ pub fn set_next(table: &mut [u32], p: u32, v: u32)
     store(table, p, NEXT, v);
 }
 
-pub fn set_class(table: &mut [u32], p: u32, v: u32)
-    requires { ⌜ p < length (classColumn (now table)) ⌝ }
-    ensures { λ _. ⌜ Stored 5 p v (now (table .entry)) (now (table .exit)) ⌝ }
-{
-    store(table, p, CLASS, v);
-}
-
-pub fn set_parent_position(table: &mut [u32], p: u32, v: u32)
-    requires { ⌜ p < length (parentPositionColumn (now table)) ⌝ }
-    ensures { λ _. ⌜ Stored 6 p v (now (table .entry)) (now (table .exit)) ⌝ }
-{
-    store(table, p, PARENT_POSITION, v);
-}
-
 pub fn set_flag(table: &mut [u32], p: u32, v: u32)
     requires { ⌜ p < length (flagColumn (now table)) ⌝ }
     ensures { λ _. ⌜ Stored 7 p v (now (table .entry)) (now (table .exit)) ⌝ }
