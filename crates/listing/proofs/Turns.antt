@@ -5,7 +5,6 @@ use mathlib.Core.Bool.{Bool, true, false}
 use mathlib.Core.List.{List}
 use lib.IntN.{ℤ}
 use lib.ListN.{length, drop, drop-of-length-le}
-use borrow.Author.Tests.{eq-eqb, ne-eqb}
 use Rattle.board.specs.declared.Board.{Board}
 use Rattle.board.specs.declared.Edited.{Edited}
 use Rattle.board.specs.Edits.{addOf, emptyOf}
@@ -18,8 +17,8 @@ use Rattle.lines.specs.Scan.{fresh, blankOf, finishOf, nextOf}
 use Rattle.lines.specs.Text.{values}
 use Rattle.lines.specs.ReadingLaws.{Settled, finish-settled}
 use Rattle.lines.specs.TextLaws.{takenOf, onFound, next-taken, next-later}
-use Rattle.listing.specs.OutcomeLaws.{absorb, feed-stopped, feed-taken}
-use Rattle.listing.specs.Loading.{startOf, stopped, rowOf, enterOf, goesOn, isBad, onStep, feedOf, endOf}
+use Rattle.listing.specs.OutcomeLaws.{absorb, feed-stopped, feed-taken, stopped-refused, stopped-bad, not-stopped, end-stopped}
+use Rattle.listing.specs.Loading.{startOf, rowOf, enterOf, goesOn, isBad, onStep, feedOf, endOf}
 use Rattle.listing.specs.declared.Load.{Load}
 
 pub started : (x : Scan) (b : Board) → x ≡ fresh → b ≡ emptyOf → record { refusal = 0; bad = false; line = 1; scan = x; board = b } ≡ startOf
@@ -35,36 +34,23 @@ pub spoiled : (l : Load) (x : Scan) → x ≡ fresh → record { refusal = l .re
 spoiled l x q = ap {B = Load} (λ (x : Scan). record { refusal = l .refusal; bad = true; line = l .line; scan = x; board = l .board }) q
 
 module _ (l : Load) where
-  stopped-refused : (l .refusal ≡ 0 → ⊥) → stopped l ≡ true
-  stopped-refused h = simp (ne-eqb _ _ h)
-
-  stopped-bad : l .refusal ≡ 0 → l .bad ≡ true → stopped l ≡ true
-  stopped-bad r h = simp (eq-eqb _ _ r, h)
-
-  goes : l .refusal ≡ 0 → l .bad ≡ false → stopped l ≡ false
-  goes r h = simp (eq-eqb _ _ r, h)
-
   -- ---- the end of the input
 
-  end-stopped : stopped l ≡ true → l ≡ endOf l
-  unfolding endOf
-  end-stopped h = rw h
-
   pub end-refused : (l .refusal ≡ 0 → ⊥) → l ≡ endOf l
-  end-refused h = end-stopped (stopped-refused h)
+  end-refused h = end-stopped l (stopped-refused l h)
 
-  pub end-bad : l .refusal ≡ 0 → l .bad ≡ true → l ≡ endOf l
-  end-bad r h = end-stopped (stopped-bad r h)
+  pub end-bad : l .bad ≡ true → l ≡ endOf l
+  end-bad h = end-stopped l (stopped-bad l h)
 
   module _ (r : l .refusal ≡ 0) (h : l .bad ≡ false) (t : Bool) (e : t ≡ blankOf (l .scan)) where
     pub end-blank : t ≡ true → l ≡ endOf l
     unfolding endOf
-    end-blank k = rw (goes r h, sym e ∙ k)
+    end-blank k = rw (not-stopped l r h, sym e ∙ k)
 
     module _ (k : t ≡ false) (s : Step) (f : s ≡ finishOf (l .scan)) where
       last : onStep l s ≡ endOf l
       unfolding endOf
-      last = rw (goes r h, sym e ∙ k, sym f)
+      last = rw (not-stopped l r h, sym e ∙ k, sym f)
 
       pub end-row : (a n o : ℕ) (m z : ℤ) (x : Load) → s ≡ step.Row a n o m → z ≡ m → x ≡ enterOf l (values a n o z) → x ≡ endOf l
       end-row a n o m z x p q g = g ∙ ap (λ (y : ℤ). enterOf l (values a n o y)) q ∙ ap (onStep l) (sym p) ∙ last
@@ -79,10 +65,10 @@ module _ (l : Load) where
   -- ---- a chunk
 
   pub feed-refused : (s : List ℕ) → (l .refusal ≡ 0 → ⊥) → l ≡ feedOf l s
-  feed-refused s h = feed-stopped l s (stopped-refused h)
+  feed-refused s h = feed-stopped l s (stopped-refused l h)
 
-  pub feed-bad : (s : List ℕ) → l .refusal ≡ 0 → l .bad ≡ true → l ≡ feedOf l s
-  feed-bad s r h = feed-stopped l s (stopped-bad r h)
+  pub feed-bad : (s : List ℕ) → l .bad ≡ true → l ≡ feedOf l s
+  feed-bad s h = feed-stopped l s (stopped-bad l h)
 
   pub feed-end : (s : List ℕ) (i : ℕ) → length s ≤ i → l ≡ feedOf l (drop i s)
   unfolding feedOf
@@ -95,14 +81,14 @@ module _ (l : Load) where
     pub feed-row : (a n o j : ℕ) (m z : ℤ) (x : Load) → f ≡ found.Row a n o m j → z ≡ m → x ≡ enterOf l (values a n o z) → feedOf l (drop i s) ≡ feedOf x (drop j s)
     feed-row a n o j m z x p q g =
         turn ∙ ap (λ (y : Found). absorb l (onFound y (λ j. takenOf fresh (drop j s)))) p
-        ∙ rw (goes r h) (sym (feed-taken (drop j s) (enterOf l (values a n o m))))
+        ∙ rw (not-stopped l r h) (sym (feed-taken (drop j s) (enterOf l (values a n o m))))
         ∙ ap (λ (k : Load). feedOf k (drop j s)) (sym (g ∙ ap (λ (y : ℤ). enterOf l (values a n o y)) q))
 
     pub feed-later : (a n o j : ℕ) (m : ℤ) → f ≡ found.Row a n o m j → i < j
     feed-later a n o j m p = next-later (drop i s) (l .scan) i a n o j m (sym e ∙ p)
 
     pub feed-bad-line : f ≡ found.Bad → isBad l ≡ feedOf l (drop i s)
-    feed-bad-line p = sym (turn ∙ ap (λ (y : Found). absorb l (onFound y (λ j. takenOf fresh (drop j s)))) p ∙ rw (goes r h))
+    feed-bad-line p = sym (turn ∙ ap (λ (y : Found). absorb l (onFound y (λ j. takenOf fresh (drop j s)))) p ∙ rw (not-stopped l r h))
 
     pub feed-more : (q : Scan) → f ≡ found.More q → goesOn l q ≡ feedOf l (drop i s)
-    feed-more q p = sym (turn ∙ ap (λ (y : Found). absorb l (onFound y (λ j. takenOf fresh (drop j s)))) p ∙ rw (goes r h))
+    feed-more q p = sym (turn ∙ ap (λ (y : Found). absorb l (onFound y (λ j. takenOf fresh (drop j s)))) p ∙ rw (not-stopped l r h))

@@ -3,12 +3,12 @@ use Prim.Native.Nat.{ℕ, _+_, _≤_, _<_}
 use native.Mathlib.Omega.{arith}
 use native.Mathlib.Nat.{mod-eq-of-lt}
 use mathlib.Core.Path.{_≡_, refl, sym, ap, ap₂, _∙_}
-use mathlib.Core.Bool.{Bool, true, false, cond, not, _||_}
+use mathlib.Core.Bool.{Bool, true, false, cond, not, _||_, or-true}
 use mathlib.Core.List.{List, [], _∷_, _++_, map, append-assoc, append-nil}
 use lib.Dec.{eqb, leb}
 use lib.ListN.{length, length-append, length-replicate}
 use lib.Seq.{length-take-le}
-use borrow.Author.Tests.{eqb-true, eqb-false, leb-false}
+use borrow.Author.Tests.{eq-eqb, ne-eqb, eqb-true, eqb-false, leb-false}
 use Rattle.lists.specs.StoreLaws.{length-front, take-front}
 use Rattle.board.specs.declared.Row.{Row}
 use Rattle.board.specs.declared.Board.{Board}
@@ -59,12 +59,19 @@ unfolding feedOf
 feed-stopped l [] h = refl
 feed-stopped l (b ∷ s) h = rw h (feed-stopped l s h)
 
-bad-stopped : (l : Load) → stopped (isBad l) ≡ true
-bad-stopped l = go (not (eqb (l .refusal) 0))
-  where
-    go : (t : Bool) → t || true ≡ true
-    go true = refl
-    go false = refl
+module _ (l : Load) where
+  pub stopped-refused : (l .refusal ≡ 0 → ⊥) → stopped l ≡ true
+  stopped-refused h = simp (ne-eqb _ _ h)
+
+  pub stopped-bad : l .bad ≡ true → stopped l ≡ true
+  stopped-bad h = ap (λ (b : Bool). not (eqb (l .refusal) 0) || b) h ∙ or-true (not (eqb (l .refusal) 0))
+
+  pub not-stopped : l .refusal ≡ 0 → l .bad ≡ false → stopped l ≡ false
+  not-stopped r h = simp (eq-eqb _ _ r, h)
+
+  pub end-stopped : stopped l ≡ true → l ≡ endOf l
+  unfolding endOf
+  end-stopped h = rw h
 
 -- ---- the bytes of a text do what the lines do that are taken from it
 
@@ -89,7 +96,7 @@ feed-taken (b ∷ s) l = go (λ k. feed-taken s k) (stopped l) refl (stepOf (l .
     go rec true h x = sym (feed-stopped l s h) ∙ sym (absorb-stopped l h (onByte x (λ q. takenOf q s) .rows) (onByte x (λ q. takenOf q s) .rest))
     go rec false h (step.More q) = rec (goesOn l q) ∙ rest-anew l q (takenOf q s .rows) (takenOf q s .rest) h
     go rec false h (step.Row a n o m) = rw h (rec (enterOf l (values a n o m)))
-    go rec false h step.Bad = rw h (sym (feed-stopped (isBad l) s (bad-stopped l)))
+    go rec false h step.Bad = rw h (sym (feed-stopped (isBad l) s (stopped-bad (isBad l) refl)))
 
 -- a text fed in two chunks is fed whole
 pub feed-chunks : (l : Load) (s t : List ℕ) → feedOf (feedOf l s) t ≡ feedOf l (s ++ t)
@@ -155,10 +162,6 @@ last-line k q b false (step.More x) = refl
 last-line k q b false (step.Row a n o m) = refl
 last-line k q b false step.Bad = refl
 
-end-stopped : (l : Load) → stopped l ≡ true → endOf l ≡ l
-unfolding endOf
-end-stopped l h = rw h
-
 Gives : List Values → Rest → Type 0
 Gives vs r =
     (k : ℕ) (p : Scan) (b : Board) → Sized b → k ≡ b .count + 1
@@ -181,7 +184,7 @@ module _ (v : Values) (vs : List Values) (r : Rest) (rec : Gives vs r) (k : ℕ)
       ∙ rec (k + 1) fresh (addOf b (rowOf v) .board) (a .sized) (ap (λ (n : ℕ). n + 1) (c ∙ sym (a .count)))
   next-row false h =
       let s : stopped (enterOf (reading k p b) v) ≡ true = rw h in
-      ap outcomeOf (ap endOf (absorb-stopped (enterOf (reading k p b) v) s vs r) ∙ end-stopped (enterOf (reading k p b) v) s) ∙ rw h
+      ap outcomeOf (ap endOf (absorb-stopped (enterOf (reading k p b) v) s vs r) ∙ sym (end-stopped (enterOf (reading k p b) v) s)) ∙ rw h
 
 gives : (vs : List Values) (r : Rest) → Gives vs r
 unfolding Gives endOf

@@ -1,34 +1,14 @@
--- Loads that are stopped, and loads of some bytes. Assumes nothing.
-use Prim.Native.Nat.{ℕ}
-use mathlib.Core.Path.{_≡_, refl, sym, ap, _∙_}
-use mathlib.Core.Bool.{Bool, true, false, not, _||_}
-use mathlib.Core.List.{List, [], _++_}
-use lib.Dec.{eqb}
-use borrow.Author.Tests.{eq-eqb, ne-eqb}
+-- Loads of some bytes. Assumes nothing.
+use mathlib.Core.Path.{_≡_, ap, _∙_}
+use mathlib.Core.Bool.{true}
+use mathlib.Core.List.{[], _++_}
 use Rattle.listing.specs.declared.Load.{Load}
 use Rattle.listing.specs.Loading.{startOf, stopped, feedOf, endOf}
-use Rattle.listing.specs.OutcomeLaws.{feed-chunks}
+use Rattle.listing.specs.OutcomeLaws.{feed-chunks, end-stopped}
 use Rattle.streams.specs.Reading.{OfText}
 use Rattle.streams.specs.ReadingLayer.{Fed}
 
-or-true : (a b : Bool) → b ≡ true → a || b ≡ true
-or-true true b h = refl
-or-true false b h = h
-
 module _ (l : Load) where
-  pub stopped-bad : l .bad ≡ true → stopped l ≡ true
-  stopped-bad h = or-true (not (eqb (l .refusal) 0)) (l .bad) h
-
-  pub stopped-refused : (l .refusal ≡ 0 → ⊥) → stopped l ≡ true
-  stopped-refused h = simp (ne-eqb _ _ h)
-
-  pub not-stopped : l .refusal ≡ 0 → l .bad ≡ false → stopped l ≡ false
-  not-stopped r h = simp (eq-eqb _ _ r, h)
-
-  end-stopped : stopped l ≡ true → l ≡ endOf l
-  unfolding endOf
-  end-stopped h = rw h
-
   -- no byte changes nothing
   pub fed-nothing : (m : Load) → m ≡ l → Fed l m
   unfolding feedOf
@@ -42,4 +22,4 @@ module _ (l : Load) where
   text-ended f m e = record { text = f .bytes; load = e ∙ ap endOf (f .load) }
 
   pub text-stopped : Fed startOf l → stopped l ≡ true → OfText l
-  text-stopped f h = text-ended f l (end-stopped h)
+  text-stopped f h = text-ended f l (end-stopped l h)

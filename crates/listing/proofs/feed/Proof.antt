@@ -30,7 +30,7 @@ returns-2 : tie.Need-returns-2 Inv-loop μ-loop
 returns-2 c =
     let s = c .before .before .before .before .before .before .args .chunk .now in
     let l = c .before .before .before .before .loop in
-    feed-bad (l .now) (drop (l .at) s) (c .before .if1 .left) (c .if2 .taken) ∙ l .inv
+    feed-bad (l .now) (drop (l .at) s) (c .if2 .taken) ∙ l .inv
 
 next-requires : tie.Need-next-requires Inv-loop μ-loop
 next-requires c κs = search needs

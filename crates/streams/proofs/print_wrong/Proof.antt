@@ -1,7 +1,7 @@
 -- `streams::print_wrong` meets its contract, branch by branch. Assumes nothing.
 use mathlib.Core.Path.{sym}
 use borrow.Author.Needs.{needs}
-use Rattle.streams.proofs.Loads.{stopped-bad, stopped-refused, not-stopped}
+use Rattle.listing.specs.OutcomeLaws.{stopped-bad, stopped-refused, not-stopped}
 use Rattle.streams.proofs.print_wrong.Statement.{statement}
 use Rattle.streams.proofs.print_wrong.Tie as tie
 

@@ -2,7 +2,8 @@
 use borrow.Author.Needs.{needs}
 use Rattle.listing.specs.Loading.{startOf}
 use Rattle.streams.specs.ReadingLayer.{Fed}
-use Rattle.streams.proofs.Loads.{stopped-bad, stopped-refused, fed-nothing, fed-more, text-ended, text-stopped}
+use Rattle.listing.specs.OutcomeLaws.{stopped-bad, stopped-refused}
+use Rattle.streams.proofs.Loads.{fed-nothing, fed-more, text-ended, text-stopped}
 use Rattle.streams.proofs.read_all.Statement.{statement}
 use Rattle.streams.proofs.read_all.Tie as tie
 

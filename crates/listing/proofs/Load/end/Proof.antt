@@ -11,7 +11,7 @@ returns : tie.Need-returns
 returns c = end-refused (c .before .before .args .self) (c .if1 .taken)
 
 returns-2 : tie.Need-returns-2
-returns-2 c = end-bad (c .before .before .before .args .self) (c .before .if1 .left) (c .if2 .taken)
+returns-2 c = end-bad (c .before .before .before .args .self) (c .if2 .taken)
 
 blank-requires : tie.Need-blank-requires
 blank-requires c κs = search needs
