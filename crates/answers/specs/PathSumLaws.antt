@@ -1,18 +1,19 @@
 -- A path sum on words that hold the bodies of a forest, and totals that hold its running totals, is as Answers says. Assumes nothing.
-use mathlib.Core.Path.{_≡_, refl, sym, ap, ap₂, subst, _∙_}
-use mathlib.Core.Logic.{inl, inr, _↔_}
+use mathlib.Core.Path.{_≡_, refl, sym, ap, subst, _∙_}
+use mathlib.Core.Logic.{_↔_}
 use mathlib.Core.Bool.{Bool, true, false, cond, _||_}
-use mathlib.Core.List.{List, [], _∷_}
-use Prim.Native.Nat.{ℕ, zero, suc, _+_, _-_, _≤_, _<_}
+use mathlib.Core.List.{List, []}
+use Prim.Native.Nat.{ℕ, _+_, _-_, _≤_, _<_}
 use native.Mathlib.Omega.{arith}
 use lib.Dec.{T}
-use lib.IntN.{ℤ, pos, negsuc, _+ℤ_, _-ℤ_, +ℤ-idr}
-use lib.ListN.{length, getD, take, drop}
+use lib.IntN.{ℤ, pos, negsuc, _-ℤ_, +ℤ-idr}
+use lib.ListN.{length, take}
+use lib.Seq.{drop-cons}
 use lib.Signed.{mag}
 use borrow.Author.Tests.{le-ltb}
 use Rattle.lists.specs.Choice.{firstOf}
 use Rattle.lists.specs.Lists.{_∈_, any, sum}
-use Rattle.lists.specs.MemberLaws.{is-false, any-out, sum-slice, filter-out}
+use Rattle.lists.specs.MemberLaws.{is-false, any-out, sum-agree, sum-slice, filter-out}
 use Rattle.image.specs.declared.Body.{Body}
 use Rattle.image.specs.Layout.{bodyOf}
 use Rattle.image.specs.ImageLayer.{HoldsImage}
@@ -35,15 +36,6 @@ unfolding leaves32
 small-stays (pos n) h = rw (le-ltb 2147483647 n (omega arith))
 small-stays (negsuc n) h = le-ltb 2147483647 n (omega arith)
 
-take-one : {A : Type 0} (l : List A) (i : ℕ) (d : A) → i < length l → take 1 (drop i l) ≡ getD l i d ∷ []
-take-one [] i d h = absurd (omega arith)
-take-one (x ∷ l) zero d h = refl
-take-one (x ∷ l) (suc i) d h = take-one l i d (omega arith)
-
-sum-agree : {A : Type 0} (f g : A → ℤ) (l : List A) → ((x : A) → x ∈ l → f x ≡ g x) → sum f l ≡ sum g l
-sum-agree f g [] h = refl
-sum-agree f g (x ∷ l) h = ap₂ _+ℤ_ (h x (inl refl)) (sum-agree f g l (λ y m. h y (inr m)))
-
 module _ {W : List (List ℕ)} (g : Forest W) {bs : List Body} (b : Described W bs) (short : (p : List ℕ) → p ∈ W → length p < 65536) (small : length W ≤ 65535) {s : List ℕ} (h : HoldsImage s bs)
     (minutes : List ℕ → ℤ) (fit : (p : List ℕ) → p ∈ W → mag (minutes p) < 2147483648) {t : List ℤ} (k : HoldsTotals minutes W t) where
   -- own minutes are those of the node
@@ -55,7 +47,7 @@ module _ {W : List (List ℕ)} (g : Forest W) {bs : List Body} (b : Described W 
         ∙ ap (λ z. sum minutes (take r W) -ℤ z) (total-is k (r - 1) (omega arith))
         ∙ ap (λ n. sum minutes (take n W) -ℤ sum minutes (take (r - 1) W)) e
         ∙ sym (sum-slice minutes W (r - 1) 1)
-        ∙ ap (sum minutes) (take-one W (r - 1) [] (omega arith))
+        ∙ ap (sum minutes) (ap (take 1) (drop-cons W (r - 1) [] (omega arith)))
         ∙ +ℤ-idr (minutes (nodeAt W r))
 
     own-fine : badOwn t r ≡ false

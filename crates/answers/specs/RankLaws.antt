@@ -1,16 +1,17 @@
 -- Ranks, falling, of the nodes that pass a test: as many as those nodes, and with the same sum. Assumes nothing.
 use mathlib.Core.Path.{_≡_, refl, sym, ap, _∙_}
 use mathlib.Core.Logic.{inl, inr}
-use mathlib.Core.Bool.{Bool, true, false}
-use mathlib.Core.List.{List, [], _∷_, _++_, map}
-use Prim.Native.Nat.{ℕ, zero, suc, _+_, _-_, _≤_, _<_}
+use mathlib.Core.Bool.{Bool}
+use mathlib.Core.List.{List, [], _∷_, _++_, map-id}
+use Prim.Native.Nat.{ℕ, zero, suc, _+_, _≤_, _<_}
 use native.Mathlib.Omega.{arith}
 use native.Mathlib.Decide.{ℕ-discrete}
-use lib.IntN.{ℤ, pos, _+ℤ_, +ℤ-comm, +ℤ-idr}
-use lib.ListN.{length, getD}
+use lib.IntN.{ℤ, pos, _+ℤ_}
+use lib.ListN.{length}
 use lib.Signed.{mag}
-use Rattle.lists.specs.Lists.{_∈_, keep, filter, numbers, Increasing, sum}
-use Rattle.lists.specs.MemberLaws.{filter-append, filter-map, map-agree, numbers-append, numbers-out, sum-append}
+use Rattle.lists.specs.Lists.{_∈_, filter, numbers, Increasing, sum}
+use Rattle.lists.specs.MemberLaws.{filter-append, filter-map, numbers-append, sum-append, sum-keep, sum-map, sum-ones}
+use Rattle.lists.specs.CountingLaws.{map-ranks}
 use Rattle.forest.specs.Nodes.{nodeAt, falling}
 
 pub falling-out : (n x : ℕ) → x ∈ falling n → (1 ≤ x) × (x ≤ n)
@@ -32,19 +33,6 @@ falling-falls (suc n) = ((λ y m. omega (arith, falling-out n y m)), falling-fal
 
 -- ---- sums
 
-sum-map : {A B : Type 0} (f : B → ℤ) (g : A → B) (l : List A) → sum f (map g l) ≡ sum (λ x. f (g x)) l
-sum-map f g [] = refl
-sum-map f g (x ∷ l) = ap (λ z. f (g x) +ℤ z) (sum-map f g l)
-
-sum-ones : {A : Type 0} (l : List A) → sum (λ _. pos 1) l ≡ pos (length l)
-sum-ones [] = refl
-sum-ones (x ∷ l) = let e : 1 + length l ≡ suc (length l) = omega arith in ap (λ z. pos 1 +ℤ z) (sum-ones l) ∙ ap pos e
-
--- an element kept in front or at the end
-sum-keep : (f : ℕ → ℤ) (b : Bool) (x : ℕ) (l : List ℕ) → sum f (keep b x l) ≡ sum f l +ℤ sum f (keep b x [])
-sum-keep f true x l = +ℤ-comm (f x) (sum f l) ∙ ap (λ z. sum f l +ℤ z) (sym (+ℤ-idr (f x)))
-sum-keep f false x l = sym (+ℤ-idr (sum f l))
-
 -- falling as rising
 sum-turned : (f : ℕ → ℤ) (h : ℕ → Bool) (n : ℕ) → sum f (filter h (falling n)) ≡ sum f (filter h (numbers 1 n))
 sum-turned f h zero = refl
@@ -59,26 +47,13 @@ sum-turned f h (suc n) =
     ∙ ap (λ l. sum f (filter h l)) (sym (numbers-append 1 n 1))
     ∙ ap (λ m. sum f (filter h (numbers 1 m))) e
 
--- the nodes of all ranks are the nodes
-nodes-of-ranks : (l : List (List ℕ)) (j : ℕ) → map (λ k. getD l (k - j) []) (numbers j (length l)) ≡ l
-nodes-of-ranks [] j = refl
-nodes-of-ranks (p ∷ l) j =
-    let z : j - j ≡ 0 = omega arith in
-    ap (λ i. getD (p ∷ l) i [] ∷ map (λ k. getD (p ∷ l) (k - j) []) (numbers (suc j) (length l))) z
-    ∙ ap (λ m. p ∷ m)
-    (map-agree (λ k. getD (p ∷ l) (k - j) []) (λ k. getD l (k - suc j) []) (numbers (suc j) (length l))
-    (λ k m. let o = numbers-out (suc j) (length l) k m in
-    let e : k - j ≡ suc (k - suc j) = omega (arith, o) in
-    ap (λ i. getD (p ∷ l) i []) e)
-    ∙ nodes-of-ranks l (suc j))
-
 module _ (f : List ℕ → Bool) (W : List (List ℕ)) where
   pub sum-ranks : (minutes : List ℕ → ℤ) → sum (λ k. minutes (nodeAt W k)) (filter (λ k. f (nodeAt W k)) (falling (length W))) ≡ sum minutes (filter f W)
   sum-ranks minutes =
       sum-turned (λ k. minutes (nodeAt W k)) (λ k. f (nodeAt W k)) (length W)
       ∙ sym (sum-map minutes (nodeAt W) (filter (λ k. f (nodeAt W k)) (numbers 1 (length W))))
       ∙ ap (sum minutes) (sym (filter-map f (nodeAt W) (numbers 1 (length W))))
-      ∙ ap (λ l. sum minutes (filter f l)) (nodes-of-ranks W 1)
+      ∙ ap (λ l. sum minutes (filter f l)) (map-ranks (nodeAt W) (λ p. p) W [] (length W) refl (λ k a b. refl) ∙ map-id W)
 
   pub count-ranks : length (filter (λ k. f (nodeAt W k)) (falling (length W))) ≡ length (filter f W)
   count-ranks = ap mag (sym (sum-ones (filter (λ k. f (nodeAt W k)) (falling (length W)))) ∙ sum-ranks (λ _. pos 1) ∙ sum-ones (filter f W))

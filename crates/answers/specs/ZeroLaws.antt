@@ -1,6 +1,6 @@
 -- On a slice of zeros all navigation is refused 13. Assumes nothing.
 use mathlib.Core.Path.{_≡_, refl, ap}
-use mathlib.Core.Bool.{Bool, true, false, cond, _||_}
+use mathlib.Core.Bool.{true, cond, _||_, or-true}
 use mathlib.Core.List.{List}
 use Prim.Native.Nat.{ℕ, zero, suc, _-_}
 use lib.Dec.{ltb}
@@ -13,15 +13,11 @@ use Rattle.navigate.specs.Climb.{chain, badClimb, climbRefusal, ancestorList, c
 use Rattle.sums.specs.Sums.{totalAt, fewTotals, totalsRefusal, beyond, sumAnswer, spanSum, badPath, pathSum}
 use Rattle.answers.specs.Answers.{RefusedNavigation}
 
-or-yes : (a : Bool) → a || true ≡ true
-or-yes true = refl
-or-yes false = refl
-
 zeros-bad : (n : ℕ) → badContents (replicate n 0) ≡ true
 unfolding badContents
 zeros-bad zero = refl
 zeros-bad (suc zero) = refl
-zeros-bad (suc (suc n)) = or-yes (ltb (length (replicate (suc (suc n)) 0)) 8)
+zeros-bad (suc (suc n)) = or-true (ltb (length (replicate (suc (suc n)) 0)) 8)
 
 module _ (n : ℕ) where
   abbrev zeros : List ℕ

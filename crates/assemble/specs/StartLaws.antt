@@ -1,8 +1,8 @@
 -- The test of refusal 8: no start row, and a top orphan. Assumes nothing.
 use mathlib.Core.Path.{_≡_, refl, sym, ap, ap₂, _∙_}
-use mathlib.Core.Bool.{Bool, true, false, not, _&&_, _||_}
+use mathlib.Core.Bool.{Bool, true, false, not, _&&_, _||_, and-false}
 use mathlib.Core.List.{List, [], _∷_, map}
-use Prim.Native.Nat.{ℕ, suc, _+_, _<_}
+use Prim.Native.Nat.{ℕ, suc, _<_}
 use native.Mathlib.Omega.{arith}
 use native.Mathlib.Nat.{zero-add}
 use native.Mathlib.Decide.{ℕ-discrete}
@@ -14,6 +14,7 @@ use Rattle.lists.specs.ChoiceLaws.{bit-test}
 use Rattle.lists.specs.Lists.{filter, keep, numbers, any}
 use Rattle.lists.specs.MemberLaws.{is-false, place-of}
 use Rattle.lists.specs.StoreLaws.{getD-mapped}
+use Rattle.lists.specs.CountingLaws.{any-positions}
 use Rattle.board.specs.Journal.{blank}
 use Rattle.board.specs.declared.Row.{Row}
 use Rattle.options.specs.declared.Depth.{Depth}
@@ -30,14 +31,6 @@ use Rattle.table.specs.TableLayer.{rowColumn, parentColumn, numeralColumn, pare
 use Rattle.refusals.specs.TestsLayer.{startAt, parentlessAt, lacksStart}
 
 -- ---- lists
-
--- a test of positions, where each position's test is that of the element there
-any-positions : {A : Type 0} (f : A → Bool) (g : ℕ → Bool) (l : List A) (d : A) (i : ℕ) → ((p : ℕ) → p < length l → g (i + p) ≡ f (getD l p d)) → any g (numbers i (length l)) ≡ any f l
-any-positions f g [] d i e = refl
-any-positions f g (x ∷ l) d i e =
-    let z : i ≡ i + 0 = omega arith in
-    ap₂ (λ (a b : Bool). a || b) (ap g z ∙ e 0 (omega arith))
-    (any-positions f g l d (suc i) (λ p h. let s : suc i + p ≡ i + suc p = omega arith in ap g s ∙ e (suc p) (omega arith)))
 
 empty-any : (f : ℕ → Bool) (l : List ℕ) → isEmpty (filter f l) ≡ not (any f l)
 empty-any f [] = refl
@@ -69,7 +62,7 @@ tops-all R start depth e =
 
 module _ (R : List Row) (start : Row → Bool) (t : List ℕ) (p : Prepared R t) (flags-are : StartFlags R start t) (numbered : WithNumerals R) where
   over-rows : (f : ℕ → Bool) (g : ℕ → Bool) → ((q : ℕ) → q < length (rowColumn t) → g q ≡ f (getD (rowColumn t) q 0)) → any g (numbers 0 (length (rowColumn t))) ≡ any f (sorted R)
-  over-rows f g e = any-positions f g (rowColumn t) 0 0 (λ q h. ap g (zero-add q) ∙ e q h) ∙ ap (any f) (p .ordered .rows-are)
+  over-rows f g e = any-positions g f (rowColumn t) 0 0 (λ q h. ap g (zero-add q) ∙ e q h) ∙ ap (any f) (p .ordered .rows-are)
 
   starts-empty : isEmpty (starts R start) ≡ not (any (startAt t) (numbers 0 (length (rowColumn t))))
   unfolding starts
@@ -114,14 +107,10 @@ module _ (R : List Row) (start : Row → Bool) (t : List ℕ) (p : Prepared R t)
       twice true = refl
       twice false = refl
 
-      neither : (x : Bool) → (x && false) ≡ false
-      neither true = refl
-      neither false = refl
-
       go : (l : List ℕ) → starts R start ≡ l → (not (any (startAt t) (numbers 0 (length (rowColumn t)))) && any (parentlessAt t) (numbers 0 (length (rowColumn t)))) ≡ (not (isEmpty (tops R start depth)) && isEmpty (starts R start))
       go [] e =
           let X : Bool = any (parentlessAt t) (numbers 0 (length (rowColumn t))) in
           ap (λ (b : Bool). b && X) (sym starts-empty ∙ ap isEmpty e) ∙ sym (ap₂ (λ (a b : Bool). not a && b) (tops-empty depth e) (ap isEmpty e) ∙ twice X)
       go (x ∷ l) e =
           ap (λ (b : Bool). b && any (parentlessAt t) (numbers 0 (length (rowColumn t)))) (sym starts-empty ∙ ap isEmpty e)
-          ∙ sym (ap (λ (b : Bool). not (isEmpty (tops R start depth)) && b) (ap isEmpty e) ∙ neither (not (isEmpty (tops R start depth))))
+          ∙ sym (ap (λ (b : Bool). not (isEmpty (tops R start depth)) && b) (ap isEmpty e) ∙ and-false (not (isEmpty (tops R start depth))))

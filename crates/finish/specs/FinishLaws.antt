@@ -1,7 +1,7 @@
 -- What the passes over an index that holds the image of bodies say of the bodies. Assumes nothing.
 use mathlib.Core.Path.{_≡_, refl, sym, ap, ap₂, subst, _∙_}
 use mathlib.Core.Logic.{_≢_}
-use mathlib.Core.Bool.{Bool, true, false, cond, not, _&&_, _||_}
+use mathlib.Core.Bool.{Bool, true, false, cond, not, _&&_, _||_, or-false}
 use mathlib.Core.List.{List, [], _∷_, map}
 use Prim.Native.Nat.{ℕ, zero, suc, _+_, _-_, _≤_, _<_}
 use native.Mathlib.Omega.{arith}
@@ -9,14 +9,14 @@ use native.Mathlib.Decide.{decLt}
 use borrow.Author.Tests.{eq-eqb, ne-eqb, le-ltb}
 use lib.Dec.{eqb, ltb, eqb→eq}
 use lib.IntN.{ℤ, pos}
-use lib.ListN.{length, getD, replicate, length-map, length-replicate, List·getD-eq-default}
-use lib.Seq.{sets, length-sets, ext-getD}
+use lib.ListN.{length, getD, replicate, length-map, List·getD-eq-default}
+use lib.Seq.{sets, length-sets}
 use Rattle.board.specs.Journal.{blank}
 use Rattle.lists.specs.Choice.{bit}
 use Rattle.lists.specs.Lists.{_∈_, filter, numbers, any, Increasing, totalsFrom, front}
-use Rattle.lists.specs.MemberLaws.{filter-map, filter-agree, filter-short, same-test, getD-in, place-of, increasing-at, map-map, map-agree, totals-map}
+use Rattle.lists.specs.MemberLaws.{eq→eqb, count-map, filter-agree, filter-short, same-test, getD-in, place-of, increasing-at, map-map, map-agree, totals-map}
 use Rattle.lists.specs.StoreLaws.{getD-mapped}
-use Rattle.lists.specs.CountingLaws.{by-place, by-place-length}
+use Rattle.lists.specs.CountingLaws.{by-place, by-place-length, map-ranks, any-ranks}
 use Rattle.board.specs.declared.Row.{Row}
 use Rattle.image.specs.declared.Body.{Body}
 use Rattle.image.specs.Layout.{rowAt, closingAt, bodyOf, flat, checked, contentsWords, imageWords}
@@ -24,7 +24,6 @@ use Rattle.image.specs.ImageLaws.{holds-front, image-written, row-read, size-re
 use Rattle.image.specs.ImageLayer.{HoldsImage}
 use Rattle.options.specs.declared.Choice.{Choice}
 use Rattle.paths.specs.Forest.{memb}
-use Rattle.paths.specs.ForestLaws.{eq→eqb}
 use Rattle.paths.specs.Rows.{row as boardRow, num, RowOf}
 use Rattle.paths.specs.SiblingLaws.{sorted-is, sorted-distinct}
 use Rattle.paths.specs.Refusals.{shared, refusal10, refusal11}
@@ -36,35 +35,9 @@ use Rattle.request.specs.RefusedLayer.{refusedBy}
 use Rattle.walk.specs.declared.Progress.{Progress}
 use Rattle.finish.specs.FinishLayer.{NodesWritten, Classes, NodesHeld, leftOver, lateRefusal, lateAnswer, bodyMinutes, Finished}
 
--- ---- rank by rank and body by body
-
--- what is read at each rank is what the element of that rank says
-pub ranks-map : {A B : Type 0} (f : ℕ → B) (g : A → B) (l : List A) (n : ℕ) (d : A) → n ≡ length l → ((k : ℕ) → 1 ≤ k → k ≤ n → f k ≡ g (getD l (k - 1) d)) → map f (numbers 1 n) ≡ map g l
-ranks-map f g l n d c h =
-    ext-getD (g d) (map f (numbers 1 n)) (map g l) (by-place-length f 1 n ∙ c ∙ sym (length-map l g))
-    (λ i b.
-    let m : i < n = omega (arith, by-place-length f 1 n) in
-    let back : 1 + i - 1 ≡ i = omega arith in
-    by-place f 1 n i (g d) m ∙ h (1 + i) (omega arith) (omega arith) ∙ ap (λ (j : ℕ). g (getD l j d)) back ∙ sym (getD-mapped g l i d (g d) (omega (arith, c))))
-
-any-map : {A : Type 0} (f : A → Bool) (l : List A) → any (λ (b : Bool). b) (map f l) ≡ any f l
-any-map f [] = refl
-any-map f (x ∷ l) = ap (λ (b : Bool). f x || b) (any-map f l)
-
-pub ranks-any : {A : Type 0} (f : ℕ → Bool) (g : A → Bool) (l : List A) (n : ℕ) (d : A) → n ≡ length l → ((k : ℕ) → 1 ≤ k → k ≤ n → f k ≡ g (getD l (k - 1) d)) → any f (numbers 1 n) ≡ any g l
-ranks-any f g l n d c h = sym (any-map f (numbers 1 n)) ∙ ap (any (λ (b : Bool). b)) (ranks-map f g l n d c h) ∙ any-map g l
-
--- how many elements of a map pass
-count-map : {A B : Type 0} (f : B → Bool) (g : A → B) (l : List A) → length (filter f (map g l)) ≡ length (filter (λ x. f (g x)) l)
-count-map f g l = ap length (filter-map f g l) ∙ length-map (filter (λ x. f (g x)) l) g
-
 bit-clear : (t : Bool) → eqb 0 (bit t) ≡ not t
 bit-clear true = refl
 bit-clear false = refl
-
-or-none : (t : Bool) → (t || false) ≡ t
-or-none true = refl
-or-none false = refl
 
 -- a choice that is not asked refuses nothing; one that is asked refuses by its test
 pub asked-no : (k j : ℕ) (b : Bool) → (k ≡ j → ⊥) → false ≡ (eqb k j && b)
@@ -105,13 +78,13 @@ module _ {R : List Row} {bs : List Body} {s : List ℕ} {n : ℕ} (h : NodesHeld
 
   pub rows-are : rowsTo s n ≡ map (λ (b : Body). b .row) bs
   unfolding rowsTo at
-  rows-are = ranks-map (rowAt s) (λ (b : Body). b .row) bs n (bodyOf s 0) (h .count-is) row-at
+  rows-are = map-ranks (rowAt s) (λ (b : Body). b .row) bs (bodyOf s 0) n (h .count-is) row-at
 
   pub closing-is : (cycle : ℕ) → (eqb cycle 1 && anyClosing s n) ≡ refusal10 cycle bs
   unfolding anyClosing
   closing-is cycle =
       ap (λ (b : Bool). eqb cycle 1 && b)
-      (ranks-any (closingAt s) (λ (b : Body). b .closing) bs n (bodyOf s 0) (h .count-is) (λ k a b. closing-read (h .holds) k (bodyOf s 0) a (omega (arith, h .count-is))))
+      (any-ranks (closingAt s) (λ (b : Body). b .closing) bs (bodyOf s 0) n (h .count-is) (λ k a b. closing-read (h .holds) k (bodyOf s 0) a (omega (arith, h .count-is))))
 
   pub left-is : (m : ℕ) → m ≡ length R → length (filter (eqb 0) (reachedFlags (rowsTo s n) m)) ≡ leftOver R bs
   unfolding reachedFlags
@@ -184,7 +157,7 @@ module _ {R : List Row} {bs : List Body} {s : List ℕ} {n : ℕ} (h : NodesHeld
 
       classes-are : classesTo s classes n ≡ map (λ (b : Body). classOf (b .row)) bs
       unfolding classesTo classAt classOf at
-      classes-are = ranks-map (classAt s classes) (λ (b : Body). classOf (b .row)) bs n (bodyOf s 0) (h .count-is) (λ k a b. ap (λ (x : ℕ). getD classes (x - 1) 0) (row-at k a b))
+      classes-are = map-ranks (classAt s classes) (λ (b : Body). classOf (b .row)) bs (bodyOf s 0) n (h .count-is) (λ k a b. ap (λ (x : ℕ). getD classes (x - 1) 0) (row-at k a b))
 
       -- the count of the class of a body is the number of bodies with its numeral
       count-is : (m : ℕ) → m ≡ length row → (b : Body) → b ∈ bs → getD (classCounts (classesTo s classes n) m) (classOf (b .row)) 0 ≡ length (filter (λ (a : Body). eqb (a .numeral) (b .numeral)) bs)
@@ -201,7 +174,7 @@ module _ {R : List Row} {bs : List Body} {s : List ℕ} {n : ℕ} (h : NodesHeld
       any-shared-is : (m : ℕ) → m ≡ length row → (leaves : Bool) → anyShared s classes (classCounts (classesTo s classes n) m) leaves n ≡ any (λ (b : Body). (not leaves || ltb 1 (b .size)) && shared bs b) bs
       unfolding anyShared sharesAt askedAt classAt classOf at
       any-shared-is m e leaves =
-          ranks-any (sharesAt s classes counts leaves) (λ (b : Body). (not leaves || ltb 1 (b .size)) && shared bs b) bs n (bodyOf s 0) (h .count-is)
+          any-ranks (sharesAt s classes counts leaves) (λ (b : Body). (not leaves || ltb 1 (b .size)) && shared bs b) bs (bodyOf s 0) n (h .count-is)
           (λ k a b.
           ap₂ (λ (x y : ℕ). (not leaves || ltb 1 x) && ltb 1 y) (size-read (h .holds) k (bodyOf s 0) a (omega (arith, h .count-is)))
           (ap (λ (x : ℕ). getD counts (getD classes (x - 1) 0) 0) (row-at k a b) ∙ count-is m e (at k) (at-in k a b)))
@@ -220,7 +193,7 @@ module _ {R : List Row} {bs : List Body} {s : List ℕ} {n : ℕ} (h : NodesHeld
           go : (k : ℕ) → (k ≡ 0 → ⊥) → k ≤ 2 → any (λ (b : Body). (not (eqb k 1) || ltb 1 (b .size)) && shared bs b) bs ≡ refusal11 k bs
           go zero z t = absurd (z refl)
           go (suc zero) z t = refl
-          go (suc (suc zero)) z t = sym (or-none (any (shared bs) bs))
+          go (suc (suc zero)) z t = sym (or-false (any (shared bs) bs))
           go (suc (suc (suc k))) z t = absurd (omega arith)
 
   pub no-ranks : n ≡ 0 → (multi : ℕ) → false ≡ refusal11 multi bs
@@ -264,13 +237,6 @@ module _ {R : List Row} {bs : List Body} {s : List ℕ} {n : ℕ} (h : NodesHeld
       shared-is h c (childColumn t₁) (p .by-row) (nextColumn t₃) (length (nextColumn t₂)) multi leaves r (omega (arith, column-length 4 t₂, column-length 0 t, q .long, p .long)) z two
       (k .counts ∙ ap (λ (x : List ℕ). classCounts (classesTo s x n) (length (nextColumn t₂))) children) l
       (a ∙ ap (λ (x : List ℕ). anyShared s x (nextColumn t₃) leaves n) (k .others 3 (omega arith) (omega arith) ∙ children))
-
--- zeros
-pub replicate-clear : (l : List ℕ) (n : ℕ) → l ≡ replicate n 0 → length l ≡ n
-replicate-clear l n e = ap length e ∙ length-replicate n 0
-
-pub clear-long : (l : List ℕ) (n : ℕ) → l ≡ replicate n 0 → l ≡ replicate (length l) 0
-clear-long l n e = e ∙ ap (λ (k : ℕ). replicate k 0) (sym (replicate-clear l n e))
 
 not-asked : (multi : ℕ) (bs : List Body) → (multi ≡ 1 → ⊥) → (multi ≡ 2 → ⊥) → false ≡ refusal11 multi bs
 not-asked multi bs a b = simp (ne-eqb multi 1 a, ne-eqb multi 2 b)

@@ -1,15 +1,15 @@
 -- Where the minutes of all calls are i32, so are those of all rows that the plain machine ever holds. Assumes nothing.
-use mathlib.Core.Path.{_≡_, refl, sym, subst}
-use mathlib.Core.Logic.{_⊎_, inl, inr, ⊎-elim}
+use mathlib.Core.Path.{refl, sym, subst}
+use mathlib.Core.Logic.{inl, inr, ⊎-elim}
 use mathlib.Core.Bool.{Bool, true, false, cond}
 use mathlib.Core.List.{List, [], _∷_, _++_}
-use Prim.Native.Nat.{ℕ, zero, suc, _-_}
+use Prim.Native.Nat.{ℕ, suc, _-_}
 use lib.Dec.{eqb, leb}
 use mir.Syntax.{w32}
 use mir.Val.{SFits}
 use lib.ListN.{length, getD, set, take, drop}
 use Rattle.lists.specs.Lists.{_∈_, without}
-use Rattle.lists.specs.MemberLaws.{append-out, take-in}
+use Rattle.lists.specs.MemberLaws.{append-out, take-in, drop-in, set-out}
 use Rattle.board.specs.declared.Row.{Row}
 use Rattle.board.specs.Journal.{blank}
 use Rattle.board.specs.Edits.{noRow, remarked}
@@ -18,18 +18,6 @@ use Rattle.history.specs.declared.Call.the-variants.{Add, Withdraw, Remark, Und
 use Rattle.history.specs.Machine.{Machine, Answer, gives, changes, goesBack, answer, after, start}
 use Rattle.history.specs.Calls.{MinutesFit, AllFit}
 use Rattle.guarantee.specs.Guarantee.{RowsFit}
-
-drop-in : {A : Type 0} (k : ℕ) (l : List A) (x : A) → x ∈ drop k l → x ∈ l
-drop-in zero l x m = m
-drop-in (suc k) [] x m = absurd m
-drop-in (suc k) (y ∷ l) x m = inr (drop-in k l x m)
-
-set-in : {A : Type 0} (l : List A) (i : ℕ) (v x : A) → x ∈ set l i v → (x ≡ v) ⊎ (x ∈ l)
-set-in [] i v x m = absurd m
-set-in (y ∷ l) zero v x (inl e) = inl e
-set-in (y ∷ l) zero v x (inr m) = inr (inr m)
-set-in (y ∷ l) (suc i) v x (inl e) = inr (inl e)
-set-in (y ∷ l) (suc i) v x (inr m) = ⊎-elim (λ e. inl e) (λ k. inr (inr k)) (set-in l i v x m)
 
 abbrev MachineFits : Machine → Type 0
 MachineFits m = RowsFit (m .rows) × ((l : List Row) → l ∈ m .earlier → RowsFit l)
@@ -69,7 +57,7 @@ step-fits m (Remark k minutes) h f =
 
     marked : RowsFit (set (m .rows) (k - 1) new)
     marked x i =
-        ⊎-elim (λ e. subst (λ (y : Row). SFits w32 (y .minutes)) (sym e) f) (λ j. h .0 x j) (set-in (m .rows) (k - 1) new x i)
+        ⊎-elim (λ e. subst (λ (y : Row). SFits w32 (y .minutes)) (sym e) f) (λ j. h .0 x j) (set-out (m .rows) (k - 1) new x i)
 step-fits m Undo h f = back-fits m (m .earlier) h (h .1)
 
 after-fits : (cs : List Call) (m : Machine) → MachineFits m → AllFit cs → MachineFits (after m cs)

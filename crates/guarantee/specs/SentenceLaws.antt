@@ -9,7 +9,7 @@ use native.Mathlib.Decide.{decLt}
 use lib.Dec.{T, T-not, not-T, eqb, eqb→eq, ltb}
 use lib.ListN.{length, getD}
 use Rattle.lists.specs.Lists.{_∈_, any}
-use Rattle.lists.specs.MemberLaws.{or-out, or-left, or-right, and-out, and-in, is-true, is-false, any-out, any-in, getD-in, place-of, increasing-at}
+use Rattle.lists.specs.MemberLaws.{eq→eqb, or-out, or-left, or-right, and-out, and-in, is-true, is-false, any-out, any-in, getD-in, place-of, increasing-at}
 use Rattle.board.specs.declared.Row.{Row}
 use Rattle.options.specs.declared.Depth.{Depth}
 use Rattle.options.specs.Options.{orphanOf, multiOf, cycleOf}
@@ -20,7 +20,6 @@ use Rattle.paths.specs.Paths as paths
 use Rattle.paths.specs.Nodes.{starts, tops, orphanRows, nodes}
 use Rattle.paths.specs.Bodies.{treeSize, bodies}
 use Rattle.paths.specs.Refusals.{orphanChoice, given, isEmpty, shared, refusal6, refusal7, refusal8, refusal9, refusal10, refusal11, refusal12, refusalOf}
-use Rattle.paths.specs.ForestLaws.{eq→eqb}
 use Rattle.paths.specs.NodeLaws.{nodes-once}
 use Rattle.paths.specs.BodyLaws.{bodies-length}
 use Rattle.paths.specs.RefusalLaws.{some-top, no-start, some-unreached, shared-is}

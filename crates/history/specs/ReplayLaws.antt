@@ -3,7 +3,7 @@ use mathlib.Core.Path.{_≡_, refl, sym, ap, _∙_}
 use Prim.Native.Nat.{ℕ, zero, suc, _+_, _/_, _%_, _≤_, _<_}
 use native.Mathlib.Omega.{arith}
 use native.Mathlib.Numerals.{add-one}
-use mathlib.Core.Bool.{Bool, true, false, cond, not, _&&_}
+use mathlib.Core.Bool.{Bool, true, false, cond, not, _&&_, and-false}
 use mathlib.Core.List.{List, [], _∷_, _++_}
 use lib.ListN.{length, set, length-append}
 use lib.Dec.{eqb, leb, ltb}
@@ -112,10 +112,6 @@ replay-simulates words lent e =
 
 -- ---- kinds
 
-and-no : (t : Bool) → (t && false) ≡ false
-and-no true = refl
-and-no false = refl
-
 pub known-not : (words : List ℕ) (n i : ℕ) → i < n → leb (kindAt words i) 3 ≡ false → allKnown words n ≡ false
 known-not words zero i h e = absurd (omega arith)
 known-not words (suc n) i h e = go (λ k. known-not words n i k e) (ltb i n) refl
@@ -124,4 +120,4 @@ known-not words (suc n) i h e = go (λ k. known-not words n i k e) (ltb i n) ref
     go before true q = rw (before (ltb-true i n q))
     go before false q =
         let s : i ≡ n = omega (arith, ltb-false i n q) in
-        rw (ap (λ (k : ℕ). leb (kindAt words k) 3) (sym s) ∙ e) (and-no (allKnown words n))
+        rw (ap (λ (k : ℕ). leb (kindAt words k) 3) (sym s) ∙ e) (and-false (allKnown words n))

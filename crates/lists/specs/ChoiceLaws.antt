@@ -20,6 +20,10 @@ pub not-bit : (b : Bool) → eqb (bit b) 0 ≡ not b
 not-bit true = refl
 not-bit false = refl
 
+pub bit-le : (b : Bool) → bit b ≤ 1
+bit-le true = omega arith
+bit-le false = omega arith
+
 pub or-no : (a b : Bool) → a || b ≡ false → (a ≡ false) × (b ≡ false)
 or-no true b e = let z : _≡_ {A = ℕ} 0 1 = cc in absurd (omega arith)
 or-no false b e = (refl, e)

@@ -3,15 +3,15 @@ use Prim.Native.Nat.{ℕ, _+_, _-_, _≤_}
 use native.Mathlib.Omega.{arith}
 use mathlib.Core.Path.{_≡_, sym, ap, ap₂, subst, _∙_}
 use mathlib.Core.Bool.{Bool, true, false, cond}
-use mathlib.Core.List.{List, [], _∷_, _++_, append-assoc}
+use mathlib.Core.List.{List, [], _∷_, _++_}
 use lib.IntN.{ℤ, pos, natAbs}
 use lib.ListN.{length, take, drop, replicate, length-append, length-replicate, drop-of-length-le, take-append-drop}
-use lib.Seq.{sets, sets-eq, length-sets, drop-at, take-at, take-take, length-take-le}
+use lib.Seq.{length-sets, take-take}
 use lib.Signed.{ltZ}
 use borrow.Author.Tests.{le-leb}
 use Rattle.lists.specs.Digits.{decimal}
 use Rattle.lists.specs.DigitLaws.{decimal-length}
-use Rattle.lists.specs.StoreLaws.{take-replicate}
+use Rattle.lists.specs.StoreLaws.{take-replicate, drop-sets, take-sets}
 use Rattle.printing.specs.Printed.{lineOf, signedText, flagDigit, lineText}
 use Rattle.printing.specs.PrintedLayer.{freshOf, room, before, byteOf, numberOf, signedOf, columnOf, flagOf, lastColumnsOf, allColumnsOf}
 use Rattle.printing.specs.declared.Printed.{Printed}
@@ -24,18 +24,6 @@ pub record HasText (p : Printed) (t : List ℕ) (k : ℕ) : Type 0 where
   pub long : length (p .bytes) ≡ 256
   pub high : p .from ≤ 256
   pub low : 256 ≤ p .from + k
-
--- a list written into a list, read from its first place on
-drop-sets : (xs t : List ℕ) (i : ℕ) → i + length t ≤ length xs → drop i (sets xs i t) ≡ t ++ drop (i + length t) xs
-drop-sets xs t i h =
-    ap (drop i) (sets-eq t xs i h ∙ append-assoc (take i xs) t (drop (i + length t) xs))
-    ∙ drop-at (take i xs) (t ++ drop (i + length t) xs) i (length-take-le i xs (omega arith))
-
--- and what stands before it
-take-sets : (xs t : List ℕ) (i : ℕ) → i + length t ≤ length xs → take i (sets xs i t) ≡ take i xs
-take-sets xs t i h =
-    ap (take i) (sets-eq t xs i h ∙ append-assoc (take i xs) t (drop (i + length t) xs))
-    ∙ take-at (take i xs) (t ++ drop (i + length t) xs) i (length-take-le i xs (omega arith))
 
 module _ (p : Printed) (t : List ℕ) (k : ℕ) (h : HasText p t k) where
   pub before-holds : (u : List ℕ) (j : ℕ) → length u ≤ j → k + j ≤ 256 → HasText (before p u) (u ++ t) (k + j)

@@ -1,31 +1,20 @@
 -- The tests before a walk are refusals 7, 8 and 9. Assumes nothing.
 use mathlib.Core.Path.{_≡_, refl, sym, ap, ap₂, _∙_}
 use mathlib.Core.Logic.{_⊎_, inl, inr}
-use mathlib.Core.Bool.{Bool, true, false, cond, not, _&&_, _||_}
+use mathlib.Core.Bool.{Bool, true, false, cond, not, _&&_, _||_, and-true, and-false, or-true, or-false}
 use mathlib.Core.List.{List}
-use Prim.Native.Nat.{ℕ, suc, _+_, _-_, _*_, _≤_, _<_}
+use Prim.Native.Nat.{ℕ, _+_, _-_, _*_, _≤_, _<_}
 use native.Mathlib.Omega.{arith}
 use borrow.Author.Tests.{eq-eqb, ne-eqb, lt-ltb, le-ltb, lt-leb, le-leb, ltb-true, ltb-false}
 use lib.Dec.{eqb, ltb}
 use lib.ListN.{length, getD}
 use Rattle.lists.specs.Lists.{numbers, any}
+use Rattle.lists.specs.CountingLaws.{any-here, any-past}
 use Rattle.options.specs.declared.Depth.{Depth}
 use Rattle.options.specs.declared.Depth.the-variants.{None, Limit}
 use Rattle.paths.specs.Refusals.{given, refusal7, refusal9}
 use Rattle.table.specs.TableLayer.{rowColumn, parentPositionColumn, flagColumn}
 use Rattle.refusals.specs.TestsLayer.{capacityOf, startAt, parentlessAt, lacksStart, earlyRefusal}
-
-and-false : (b : Bool) → (b && false) ≡ false
-and-false true = refl
-and-false false = refl
-
-or-true : (b : Bool) → (b || true) ≡ true
-or-true true = refl
-or-true false = refl
-
-or-false : (b : Bool) → (b || false) ≡ b
-or-false true = refl
-or-false false = refl
 
 -- ---- 7: a depth is given
 
@@ -70,16 +59,6 @@ short-totals n words totals h = go (ltb 65535 n) (ltb words (8 + 6 * n))
     go false false = lt-ltb totals (n + 1) (omega arith)
 
 -- ---- the test of refusal 8, position by position
-
-module _ (f : ℕ → Bool) (n p : ℕ) where
-  any-here : p < n → any f (numbers p (n - p)) ≡ (f p || any f (numbers (p + 1) (n - (p + 1))))
-  any-here h =
-      let e : n - p ≡ suc (n - (p + 1)) = omega arith in
-      let s : suc p ≡ p + 1 = omega arith in
-      ap (λ (j : ℕ). any f (numbers p j)) e ∙ ap (λ (j : ℕ). f p || any f (numbers j (n - (p + 1)))) s
-
-  any-past : n ≤ p → any f (numbers p (n - p)) ≡ false
-  any-past h = let e : n - p ≡ 0 = omega arith in ap (λ (j : ℕ). any f (numbers p j)) e
 
 -- no row before position p is a start row, and `found` tells whether one of them has no parent
 pub record NoStartTo (t : List ℕ) (p : ℕ) (found : Bool) : Type 0 where
@@ -139,11 +118,7 @@ pub depth-free : (orphan : ℕ) (depth : Depth) → orphan ≡ 0 → false ≡ r
 depth-free orphan depth e = sym (ap (λ (t : Bool). given depth && not t) (eq-eqb orphan 0 e) ∙ and-false (given depth))
 
 pub depth-asked : (orphan : ℕ) (depth : Depth) (t : Bool) → (orphan ≡ 0 → ⊥) → t ≡ given depth → t ≡ refusal7 orphan depth
-depth-asked orphan depth t n e = e ∙ sym (ap (λ (s : Bool). given depth && not s) (ne-eqb orphan 0 n) ∙ and-yes (given depth))
-  where
-    and-yes : (x : Bool) → (x && true) ≡ x
-    and-yes true = refl
-    and-yes false = refl
+depth-asked orphan depth t n e = e ∙ sym (ap (λ (s : Bool). given depth && not s) (ne-eqb orphan 0 n) ∙ and-true (given depth))
 
 -- ---- the tests in their order
 

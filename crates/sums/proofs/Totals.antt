@@ -1,6 +1,6 @@
 -- Totals that are not beyond 2^47, own minutes that do not leave i32, and sums of them. Assumes nothing.
-use mathlib.Core.Path.{_≡_, refl, sym, ap, _∙_, subst}
-use mathlib.Core.Bool.{Bool, true, false, _||_}
+use mathlib.Core.Path.{_≡_, sym, ap, ap₂, _∙_, subst}
+use mathlib.Core.Bool.{Bool, true, false, _||_, or-true}
 use mathlib.Core.List.{List, _∷_}
 use Prim.Native.Nat.{ℕ, _+_, _*_, _≤_}
 use native.Mathlib.Omega.{arith}
@@ -42,13 +42,6 @@ unfolding leaves32
 minutes-mag (pos n) e = ltb-false 2147483647 n (or-no (ltb 2147483647 n) _ e .0)
 minutes-mag (negsuc n) e = ltb-false 2147483647 n (or-no false (ltb 2147483647 n) e .1)
 
-or-true : (a b : Bool) → b ≡ true → a || b ≡ true
-or-true true b e = refl
-or-true false b e = e
-
-or-false : (a b : Bool) → a ≡ false → b ≡ false → a || b ≡ false
-or-false a b e f = ap (λ (t : Bool). t || b) e ∙ f
-
 module _ (z : ℤ) where
   pub leaves-high : ltZ (pos 2147483647) z ≡ true → leaves32 z ≡ true
   unfolding leaves32
@@ -56,11 +49,11 @@ module _ (z : ℤ) where
 
   pub leaves-low : ltZ z (negsuc 2147483647) ≡ true → leaves32 z ≡ true
   unfolding leaves32
-  leaves-low e = or-true (ltZ (pos 2147483647) z) (ltZ z (negsuc 2147483647)) e
+  leaves-low e = ap (λ (t : Bool). ltZ (pos 2147483647) z || t) e ∙ or-true (ltZ (pos 2147483647) z)
 
   pub leaves-not : ltZ (pos 2147483647) z ≡ false → ltZ z (negsuc 2147483647) ≡ false → leaves32 z ≡ false
   unfolding leaves32
-  leaves-not e f = or-false (ltZ (pos 2147483647) z) (ltZ z (negsuc 2147483647)) e f
+  leaves-not e f = ap₂ _||_ e f
 
 pub own-mag : (last first : ℤ) → badTotals last first ≡ false → mag (last -ℤ first) ≤ 2147483647
 unfolding badTotals

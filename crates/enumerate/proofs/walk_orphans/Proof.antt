@@ -9,7 +9,8 @@ use Rattle.lists.specs.Lists.{filter}
 use Rattle.table.specs.TableLayer.{rowColumn}
 use Rattle.passes.specs.PassesLayer.{Named, rowsTo, reachedFlags}
 use Rattle.orphans.specs.OutsideLayer.{OutsideLinked}
-use Rattle.enumerate.specs.OrphanLaws.{prepared-few, prepared-linkable, none-outside, outside-kept, outside-walkable, orphans-walked, level-le, reached-long, reached-zeros}
+use Rattle.enumerate.specs.OrphanLaws.{prepared-few, prepared-linkable, none-outside, outside-kept, outside-walkable, orphans-walked, level-le}
+use Rattle.lists.specs.StoreLaws.{zeros-length, zeros-whole}
 use Rattle.enumerate.specs.EnumerateLaws.{rows-kept}
 use Rattle.enumerate.proofs.walk_orphans.Statement.{statement}
 use Rattle.enumerate.proofs.walk_orphans.Tie as tie
@@ -31,8 +32,8 @@ mark-rows-requires : tie.Need-mark-rows-requires
 mark-rows-requires c κs =
     let s = c .before .before .before .before .before .before .before in
     let z = s .pre .1 .1 in
-    let long : length (s .args .reached .now) ≡ length (rowColumn (s .args .table .now)) = reached-long _ _ (z .reached-clear) in
-    (omega (arith, s .pre .1 .0), subst (λ (k : ℕ). Named (s .args .index .now) (s .args .progress .count) k) (sym long) (s .pre .1 .0 .3), reached-zeros _ (length (rowColumn (s .args .table .now))) (z .reached-clear))
+    let long : length (s .args .reached .now) ≡ length (rowColumn (s .args .table .now)) = zeros-length _ _ (z .reached-clear) in
+    (omega (arith, s .pre .1 .0), subst (λ (k : ℕ). Named (s .args .index .now) (s .args .progress .count) k) (sym long) (s .pre .1 .0 .3), zeros-whole _ (length (rowColumn (s .args .table .now))) (z .reached-clear))
 
 -- src/lib.rt:87:8
 count-clear-requires : tie.Need-count-clear-requires
@@ -51,7 +52,7 @@ returns : tie.Need-returns
 returns c =
     let s = c .before .before .before .before .before .before .before .before .before .before .before .before .before in
     let ends = rowsTo (s .args .index .now) (s .args .progress .count) in
-    let flags = c .before .before .before .before .before .mark-rows .ensures ∙ ap (reachedFlags ends) (reached-long _ _ (s .pre .1 .1 .reached-clear)) in
+    let flags = c .before .before .before .before .before .mark-rows .ensures ∙ ap (reachedFlags ends) (zeros-length _ _ (s .pre .1 .1 .reached-clear)) in
     let none : length (filter (eqb 0) (reachedFlags ends (length (rowColumn (s .args .table .now))))) ≡ 0 = ap (λ (l : List ℕ). length (filter (eqb 0) l)) (sym flags) ∙ sym (c .before .count-clear .ensures) ∙ c .if1 .taken in
     ((λ R y z. none-outside R _ y z ends _ _ _ _ _ _ none (s .pre .1 .0 .0)), rows-kept _)
 
@@ -85,7 +86,7 @@ roots-requires : tie.Need-roots-requires
 roots-requires c κs =
     let s = c .before .before .before .before .before .before .before .before .before .before .before .before .before .before .before .before .before .before .before .before .before .before .before .before in
     let ends = rowsTo (s .args .index .now) (s .args .progress .count) in
-    let flags = c .before .before .before .before .before .before .before .before .before .before .before .before .before .before .before .before .mark-rows .ensures ∙ ap (reachedFlags ends) (reached-long _ _ (s .pre .1 .1 .reached-clear)) in
+    let flags = c .before .before .before .before .before .before .before .before .before .before .before .before .before .before .before .before .mark-rows .ensures ∙ ap (reachedFlags ends) (zeros-length _ _ (s .pre .1 .1 .reached-clear)) in
     let l = subst (λ (k : List ℕ). OutsideLinked k (s .args .table .now) (c .before .before .before .before .before .before .before .before .link-outside .last .0)) flags (c .before .before .before .before .before .before .before .before .link-outside .ensures) in
     (outside-walkable _ _ (s .pre .0 .prepared) (s .pre .0 .numbered) ends _ l _ (s .pre .1 .1 .marks-long), (omega (arith, c .before .before .before .rows .ensures 3), s .pre .1 .0 .0, s .pre .1 .0 .1, s .pre .1 .0 .2))
 
@@ -110,7 +111,7 @@ returns-2 : tie.Need-returns-2
 returns-2 c =
     let s = c .before .before .before .before .before .before .before .before .before .before .before .before .before .before .before .before .before .before .before .before .before .before .before .before .before .before .before .before .before in
     let ends = rowsTo (s .args .index .now) (s .args .progress .count) in
-    let flags = c .before .before .before .before .before .before .before .before .before .before .before .before .before .before .before .before .before .before .before .before .before .mark-rows .ensures ∙ ap (reachedFlags ends) (reached-long _ _ (s .pre .1 .1 .reached-clear)) in
+    let flags = c .before .before .before .before .before .before .before .before .before .before .before .before .before .before .before .before .before .before .before .before .before .mark-rows .ensures ∙ ap (reachedFlags ends) (zeros-length _ _ (s .pre .1 .1 .reached-clear)) in
     let l = subst (λ (k : List ℕ). OutsideLinked k (s .args .table .now) (c .before .before .before .before .before .before .before .before .before .before .before .before .before .link-outside .last .0)) flags (c .before .before .before .before .before .before .before .before .before .before .before .before .before .link-outside .ensures) in
     let n : c .before .before .before .before .before .before .before .before .rows .result ≡ length (rowColumn (s .args .table .now)) = c .before .before .before .before .before .before .before .before .rows .ensures 0 ∙ ap length (l .others 0 (omega arith) (omega arith) (omega arith) (omega arith)) in
     let level = c .before .before .before .before .before .before .before .before .before .before .level-under in

@@ -1,8 +1,8 @@
 use mathlib.Core.Path.{refl, _∙_}
-use Rattle.finish.specs.FinishLaws.{held, few-ranks, named-in, count-few, minutes-long, replicate-clear, clear-long, finished-closed, finished-shared, finished-left, finished-all}
+use Rattle.lists.specs.StoreLaws.{zeros-length, zeros-whole}
+use Rattle.finish.specs.FinishLaws.{held, few-ranks, named-in, count-few, minutes-long, finished-closed, finished-shared, finished-left, finished-all}
 use borrow.Author.Needs.{needs}
 use native.Mathlib.Omega.{arith}
-use Prim.Native.Nat.{_-_}
 use lib.ListN.{length}
 use Rattle.finish.proofs.finish.Statement.{statement}
 use Rattle.finish.proofs.finish.Tie as tie
@@ -56,7 +56,7 @@ mark-rows-requires c κs =
     let p = c .before .before .before .before .before .before .before .before .before .before .before .before .before .before .before .before .before .before .before .before .before .before .before .pre in
     let h = held (p .0 .written) _ (c .before .before .before .before .before .before .before .before .before .before .before .before .before .before .before .before .before .write-contents .ensures) in
     let z = c .before .before .before .before .clear .ensures in
-    (few-ranks h, named-in h _ (replicate-clear (c .before .before .before .before .clear .last .0) (length (c .before .before .before .before .before .before .before .before .before .before .before .before .before .before .before .before .before .before .before .before .before .before .before .args .reached .now)) z ∙ p .1 .0 ∙ p .0 .classes .row-long), clear-long (c .before .before .before .before .clear .last .0) (length (c .before .before .before .before .before .before .before .before .before .before .before .before .before .before .before .before .before .before .before .before .before .before .before .args .reached .now)) z)
+    (few-ranks h, named-in h _ (zeros-length (c .before .before .before .before .clear .last .0) (length (c .before .before .before .before .before .before .before .before .before .before .before .before .before .before .before .before .before .before .before .before .before .before .before .args .reached .now)) z ∙ p .1 .0 ∙ p .0 .classes .row-long), zeros-whole (c .before .before .before .before .clear .last .0) (length (c .before .before .before .before .before .before .before .before .before .before .before .before .before .before .before .before .before .before .before .before .before .before .before .args .reached .now)) z)
 
 count-clear-requires : tie.Need-count-clear-requires
 count-clear-requires c κs = search needs
@@ -64,7 +64,7 @@ count-clear-requires c κs = search needs
 cast-left : tie.Need-cast-left
 cast-left c =
     let p = c .before .before .before .before .before .before .before .before .before .before .before .before .before .before .before .before .before .before .before .before .before .before .before .before .before .before .before .before .pre in
-    omega (arith, count-few _ _ _ _ (c .before .before .before .before .mark-rows .ensures) (c .count-clear .ensures) (omega (arith, replicate-clear (c .before .before .before .before .before .before .before .before .before .clear .last .0) (length (c .before .before .before .before .before .before .before .before .before .before .before .before .before .before .before .before .before .before .before .before .before .before .before .before .before .before .before .before .args .reached .now)) (c .before .before .before .before .before .before .before .before .before .clear .ensures), p .1 .0, p .0 .classes .row-long, p .0 .classes .few)))
+    omega (arith, count-few _ _ _ _ (c .before .before .before .before .mark-rows .ensures) (c .count-clear .ensures) (omega (arith, zeros-length (c .before .before .before .before .before .before .before .before .before .clear .last .0) (length (c .before .before .before .before .before .before .before .before .before .before .before .before .before .before .before .before .before .before .before .before .before .before .before .before .before .before .before .before .args .reached .now)) (c .before .before .before .before .before .before .before .before .before .clear .ensures), p .1 .0, p .0 .classes .row-long, p .0 .classes .few)))
 
 is-left-requires : tie.Need-is-left-requires
 is-left-requires c κs = search needs
@@ -85,7 +85,7 @@ returns-3 : tie.Need-returns-3
 returns-3 c =
     let p = c .before .before .before .before .before .before .before .before .before .before .before .before .before .before .before .before .before .before .before .before .before .before .before .before .before .before .before .before .before .before .before .pre in
     let e = c .before .before .before .before .before .before .before .before .before .before .before .before .before .before .before .before .before .before .before .before .before .before .before .before .before .write-contents .ensures in
-    λ R bs before w k m. finished-left R _ bs before _ _ w _ e _ _ _ _ _ (c .before .before .before .before .before .before .before .before .before .before .before .before .before .before .before .before .before .before .before .before .before .is-closed .ensures) (c .before .before .before .before .before .before .before .before .before .before .before .before .before .before .before .before .before .before .before .before .if1 .left) _ (c .before .before .before .before .before .before .before .before .before .before .before .before .before .before .before .before .before .is-shared .ensures R bs (held w _ e) k) (c .before .before .before .before .before .before .before .before .before .before .before .before .before .before .if2 .left) _ _ (replicate-clear (c .before .before .before .before .before .before .before .before .before .before .before .before .clear .last .0) (length (c .before .before .before .before .before .before .before .before .before .before .before .before .before .before .before .before .before .before .before .before .before .before .before .before .before .before .before .before .before .before .before .args .reached .now)) (c .before .before .before .before .before .before .before .before .before .before .before .before .clear .ensures) ∙ p .1 .0 ∙ k .row-long) (c .before .before .before .before .before .before .before .mark-rows .ensures) _ (c .before .before .before .count-clear .ensures) _ (c .before .before .is-left .ensures) (c .before .if3 .taken) (c .refused3 .ensures)
+    λ R bs before w k m. finished-left R _ bs before _ _ w _ e _ _ _ _ _ (c .before .before .before .before .before .before .before .before .before .before .before .before .before .before .before .before .before .before .before .before .before .is-closed .ensures) (c .before .before .before .before .before .before .before .before .before .before .before .before .before .before .before .before .before .before .before .before .if1 .left) _ (c .before .before .before .before .before .before .before .before .before .before .before .before .before .before .before .before .before .is-shared .ensures R bs (held w _ e) k) (c .before .before .before .before .before .before .before .before .before .before .before .before .before .before .if2 .left) _ _ (zeros-length (c .before .before .before .before .before .before .before .before .before .before .before .before .clear .last .0) (length (c .before .before .before .before .before .before .before .before .before .before .before .before .before .before .before .before .before .before .before .before .before .before .before .before .before .before .before .before .before .before .before .args .reached .now)) (c .before .before .before .before .before .before .before .before .before .before .before .before .clear .ensures) ∙ p .1 .0 ∙ k .row-long) (c .before .before .before .before .before .before .before .mark-rows .ensures) _ (c .before .before .before .count-clear .ensures) _ (c .before .before .is-left .ensures) (c .before .if3 .taken) (c .refused3 .ensures)
 
 fill-totals-requires : tie.Need-fill-totals-requires
 fill-totals-requires c κs =
@@ -109,7 +109,7 @@ returns-4 : tie.Need-returns-4
 returns-4 c =
     let p = c .before .before .before .before .before .before .before .before .before .before .before .before .before .before .before .before .before .before .before .before .before .before .before .before .before .before .before .before .before .before .before .before .before .before .pre in
     let e = c .before .before .before .before .before .before .before .before .before .before .before .before .before .before .before .before .before .before .before .before .before .before .before .before .before .before .before .before .write-contents .ensures in
-    λ R bs before w k m. finished-all R _ bs before _ _ w _ e _ _ _ _ _ (c .before .before .before .before .before .before .before .before .before .before .before .before .before .before .before .before .before .before .before .before .before .before .before .before .is-closed .ensures) (c .before .before .before .before .before .before .before .before .before .before .before .before .before .before .before .before .before .before .before .before .before .before .before .if1 .left) _ (c .before .before .before .before .before .before .before .before .before .before .before .before .before .before .before .before .before .before .before .before .is-shared .ensures R bs (held w _ e) k) (c .before .before .before .before .before .before .before .before .before .before .before .before .before .before .before .before .before .if2 .left) _ _ (replicate-clear (c .before .before .before .before .before .before .before .before .before .before .before .before .before .before .before .clear .last .0) (length (c .before .before .before .before .before .before .before .before .before .before .before .before .before .before .before .before .before .before .before .before .before .before .before .before .before .before .before .before .before .before .before .before .before .before .args .reached .now)) (c .before .before .before .before .before .before .before .before .before .before .before .before .before .before .before .clear .ensures) ∙ p .1 .0 ∙ k .row-long) (c .before .before .before .before .before .before .before .before .before .before .mark-rows .ensures) _ (c .before .before .before .before .before .before .count-clear .ensures) _ (c .before .before .before .before .before .is-left .ensures) (c .before .before .before .before .if3 .left) _ m (c .before .fill-totals .ensures) refl refl
+    λ R bs before w k m. finished-all R _ bs before _ _ w _ e _ _ _ _ _ (c .before .before .before .before .before .before .before .before .before .before .before .before .before .before .before .before .before .before .before .before .before .before .before .before .is-closed .ensures) (c .before .before .before .before .before .before .before .before .before .before .before .before .before .before .before .before .before .before .before .before .before .before .before .if1 .left) _ (c .before .before .before .before .before .before .before .before .before .before .before .before .before .before .before .before .before .before .before .before .is-shared .ensures R bs (held w _ e) k) (c .before .before .before .before .before .before .before .before .before .before .before .before .before .before .before .before .before .if2 .left) _ _ (zeros-length (c .before .before .before .before .before .before .before .before .before .before .before .before .before .before .before .clear .last .0) (length (c .before .before .before .before .before .before .before .before .before .before .before .before .before .before .before .before .before .before .before .before .before .before .before .before .before .before .before .before .before .before .before .before .before .before .args .reached .now)) (c .before .before .before .before .before .before .before .before .before .before .before .before .before .before .before .clear .ensures) ∙ p .1 .0 ∙ k .row-long) (c .before .before .before .before .before .before .before .before .before .before .mark-rows .ensures) _ (c .before .before .before .before .before .before .count-clear .ensures) _ (c .before .before .before .before .before .is-left .ensures) (c .before .before .before .before .if3 .left) _ m (c .before .fill-totals .ensures) refl refl
 
 pub finish-spec : {M : Type 1} → statement M
 finish-spec =

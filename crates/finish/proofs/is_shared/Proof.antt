@@ -2,7 +2,6 @@ use mathlib.Core.Path.{refl, ap}
 use Rattle.finish.specs.FinishLaws.{few-ranks, rows-once, no-ranks, multi-zero, multi-above, counting-named, counting-clear, counting-below, counted-named, shared-found}
 use borrow.Author.Needs.{needs}
 use native.Mathlib.Omega.{arith}
-use Prim.Native.Nat.{_-_}
 use lib.ListN.{length}
 use Rattle.finish.proofs.is_shared.Statement.{statement}
 use Rattle.finish.proofs.is_shared.Tie as tie

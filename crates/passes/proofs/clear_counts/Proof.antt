@@ -2,7 +2,7 @@ use mathlib.Core.Path.{refl, _∙_}
 use Prim.Native.Nat.{_/_}
 use Rattle.table.specs.TableLaws.{column-length}
 use Rattle.table.specs.FillLaws.{Filled, filled-start, filled-step, filled-end}
-use Rattle.passes.proofs.Laws.{zeros-are}
+use Rattle.lists.specs.CountingLaws.{zeros-are}
 use borrow.Author.Needs.{needs}
 use native.Mathlib.Omega.{arith}
 use Prim.Native.Nat.{_≤_, _<_, _-_}

@@ -1,7 +1,7 @@
 use mathlib.Core.Path.{ap, _∙_}
 use Rattle.refusals.specs.TestsLayer.{capacityOf}
 use borrow.Author.Needs.{needs}
-use Prim.Native.Nat.{ℕ, min, _-_}
+use Prim.Native.Nat.{ℕ, min}
 use Rattle.refusals.proofs.capacity.Statement.{statement}
 use Rattle.refusals.proofs.capacity.Tie as tie
 

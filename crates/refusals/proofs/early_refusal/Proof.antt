@@ -1,7 +1,6 @@
 use mathlib.Core.Path.{sym, _∙_}
 use Rattle.refusals.specs.TestsLaws.{early-eight, early-nine-index, early-nine-totals, early-none}
 use borrow.Author.Needs.{needs}
-use Prim.Native.Nat.{_-_}
 use Rattle.refusals.proofs.early_refusal.Statement.{statement}
 use Rattle.refusals.proofs.early_refusal.Tie as tie
 

@@ -1,6 +1,5 @@
 use Rattle.refusals.specs.TestsLaws.{depth-free, depth-asked}
 use borrow.Author.Needs.{needs}
-use Prim.Native.Nat.{_-_}
 use Rattle.refusals.proofs.is_depth_refused.Statement.{statement}
 use Rattle.refusals.proofs.is_depth_refused.Tie as tie
 
