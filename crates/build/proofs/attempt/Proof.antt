@@ -5,7 +5,6 @@ use Rattle.assemble.specs.AssembledLaws.{seven-is}
 use Rattle.build.specs.BuildLaws.{by-six, by-seven, orphan-few, attempt-sound, attempt-unsound, attempt-built, attempt-as, sound-numbered}
 use borrow.Author.Needs.{needs}
 use native.Mathlib.Omega.{arith}
-use Prim.Native.Nat.{_-_}
 use Rattle.build.proofs.attempt.Statement.{statement}
 use Rattle.build.proofs.attempt.Tie as tie
 

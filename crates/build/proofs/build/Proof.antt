@@ -3,7 +3,7 @@ use lib.IntN.{ℤ, pos}
 use mathlib.Core.Path.{ap, _∙_}
 use Rattle.build.specs.BuildLaws.{accepted-index, accepted-totals, refused-index, refused-totals}
 use borrow.Author.Needs.{needs}
-use Prim.Native.Nat.{ℕ, _-_}
+use Prim.Native.Nat.{ℕ}
 use Rattle.build.proofs.build.Statement.{statement}
 use Rattle.build.proofs.build.Tie as tie
 
