@@ -1,4 +1,4 @@
--- Rows prepared in the fronts of working arrays of any size. Assumes nothing.
+-- Rows read and prepared in the fronts of working arrays of any size. Assumes nothing.
 use mathlib.Core.Path.{_≡_, sym, ap, subst, _∙_}
 use mathlib.Core.Bool.{Bool}
 use mathlib.Core.List.{List, _++_, map}
@@ -8,9 +8,10 @@ use lib.IntN.{ℤ}
 use lib.ListN.{length, take, drop, replicate, length-replicate}
 use lib.Seq.{length-take-le, length-front, take-at}
 use Rattle.board.specs.declared.Row.{Row}
+use Rattle.sorting.specs.KeyLayer.{PositionOrdered}
 use Rattle.table.specs.TableLayer.{rowColumn}
 use Rattle.table.specs.TableLaws.{column-length}
-use Rattle.links.specs.PreparedLayer.{Prepared, StartFlags, WithNumerals}
+use Rattle.links.specs.PreparedLayer.{Prepared, StartFlags, WithNumerals, RowsRead}
 use Rattle.enumerate.specs.EnumerateLayer.{ClearWorkspace}
 use Rattle.assemble.specs.AssembledLayer.{PreparedRows}
 use Rattle.assemble.specs.AssembledLaws.{take-replicate, marks-none}
@@ -27,24 +28,39 @@ module _ {A : Type 0} (n : ℕ) (written lent : List A) (same : length written �
 -- ---- n rows in arrays for as many rows or more
 
 module _ (n : ℕ) where
-  pub preparing : (minutes : List ℤ) (table parentKeys numeralKeys scratch : List ℕ) → n ≤ 1024 → n ≤ length minutes → 8 * n ≤ length table → n ≤ length parentKeys → n ≤ length numeralKeys → n ≤ length scratch
-      → (length (take n minutes) ≤ 1024) × (length (take (8 * n) table) ≡ 8 * length (take n minutes)) × (length (take n parentKeys) ≡ length (take n minutes)) × (length (take n numeralKeys) ≡ length (take n minutes)) × (length (take n scratch) ≡ length (take n minutes))
-  preparing minutes table parentKeys numeralKeys scratch few a b c d e =
+  pub reading : (minutes : List ℤ) (table parentKeys : List ℕ) → n ≤ 1024 → n ≤ length minutes → 8 * n ≤ length table → n ≤ length parentKeys
+      → (length (take n minutes) ≤ 1024) × (length (take (8 * n) table) ≡ 8 * length (take n minutes)) × (length (take n parentKeys) ≡ length (take n minutes))
+  reading minutes table parentKeys few a b c =
       let m = length-take-le n minutes a in
-      (omega arith, length-take-le (8 * n) table b ∙ ap (λ (k : ℕ). 8 * k) (sym m), length-take-le n parentKeys c ∙ sym m, length-take-le n numeralKeys d ∙ sym m, length-take-le n scratch e ∙ sym m)
+      (omega arith, length-take-le (8 * n) table b ∙ ap (λ (k : ℕ). 8 * k) (sym m), length-take-le n parentKeys c ∙ sym m)
+
+  -- what was read is lent again
+  pub read-again : (rows : List Row) (table table₀ keys keys₀ : List ℕ) (minutes minutes₀ : List ℤ) → length table ≡ length (take (8 * n) table₀) → 8 * n ≤ length table₀ → length keys ≡ length (take n keys₀) → n ≤ length keys₀ → n ≤ length minutes₀
+      → RowsRead (take (length (take n minutes₀)) rows) table keys × PositionOrdered keys × (minutes ≡ map (λ (r : Row). r .minutes) (take (length (take n minutes₀)) rows))
+      → RowsRead (take n rows) (take (8 * n) (table ++ drop (8 * n) table₀)) (take n (keys ++ drop n keys₀)) × PositionOrdered (take n (keys ++ drop n keys₀))
+  read-again rows table table₀ keys keys₀ minutes minutes₀ a b c d e p =
+      let x = take-at table (drop (8 * n) table₀) (8 * n) (a ∙ length-take-le (8 * n) table₀ b) in
+      let y = take-at keys (drop n keys₀) n (c ∙ length-take-le n keys₀ d) in
+      (rw (x, y) (subst (λ (j : ℕ). RowsRead (take j rows) table keys) (length-take-le n minutes₀ e) (p .0)), subst PositionOrdered (sym y) (p .1))
+
+  pub preparing : (table parentKeys numeralKeys scratch : List ℕ) → n ≤ 1024 → 8 * n ≤ length table → n ≤ length parentKeys → n ≤ length numeralKeys → n ≤ length scratch → PositionOrdered (take n parentKeys)
+      → (length (take n parentKeys) ≤ 1024) × (length (take (8 * n) table) ≡ 8 * length (take n parentKeys)) × PositionOrdered (take n parentKeys) × (length (take n numeralKeys) ≡ length (take n parentKeys)) × (length (take n scratch) ≡ length (take n parentKeys))
+  preparing table parentKeys numeralKeys scratch few a b c d ordered =
+      let m = length-take-le n parentKeys b in
+      (omega arith, length-take-le (8 * n) table a ∙ ap (λ (k : ℕ). 8 * k) (sym m), ordered, length-take-le n numeralKeys c ∙ sym m, length-take-le n scratch d ∙ sym m)
 
   -- what was prepared is lent again
   pub lent-again : (rows : List Row) (start : Row → Bool) (table table₀ : List ℕ) (minutes minutes₀ : List ℤ) → length table ≡ length (take (8 * n) table₀) → 8 * n ≤ length table₀ → length minutes ≡ length (take n minutes₀) → n ≤ length minutes₀
-      → Prepared (take (length (take n minutes₀)) rows) table × StartFlags (take (length (take n minutes₀)) rows) start table × (minutes ≡ map (λ (r : Row). r .minutes) (take (length (take n minutes₀)) rows))
+      → Prepared (take n rows) table × StartFlags (take n rows) start table → minutes ≡ map (λ (r : Row). r .minutes) (take (length (take n minutes₀)) rows)
       → WithNumerals (take n rows) → PreparedRows (take n rows) start (take (8 * n) (table ++ drop (8 * n) table₀)) (take n (minutes ++ drop n minutes₀))
-  lent-again rows start table table₀ minutes minutes₀ a b c d p w =
+  lent-again rows start table table₀ minutes minutes₀ a b c d p m w =
       let k = length-take-le n minutes₀ d in
       let x = take-at table (drop (8 * n) table₀) (8 * n) (a ∙ length-take-le (8 * n) table₀ b) in
       record {
-        prepared = subst (λ (t : List ℕ). Prepared (take n rows) t) (sym x) (subst (λ (j : ℕ). Prepared (take j rows) table) k (p .0));
-        flags-are = subst (λ (t : List ℕ). StartFlags (take n rows) start t) (sym x) (subst (λ (j : ℕ). StartFlags (take j rows) start table) k (p .1));
+        prepared = subst (λ (t : List ℕ). Prepared (take n rows) t) (sym x) (p .0);
+        flags-are = subst (λ (t : List ℕ). StartFlags (take n rows) start t) (sym x) (p .1);
         numbered = w;
-        minutes-are = take-at minutes (drop n minutes₀) n (c ∙ k) ∙ p .2 ∙ ap (λ (j : ℕ). map (λ (r : Row). r .minutes) (take j rows)) k;
+        minutes-are = take-at minutes (drop n minutes₀) n (c ∙ k) ∙ m ∙ ap (λ (j : ℕ). map (λ (r : Row). r .minutes) (take j rows)) k;
       }
 
   -- the fronts of two arrays of zeros

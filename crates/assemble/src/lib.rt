@@ -100,12 +100,16 @@ fn build_few(
     let mut numeral_keys = [0u64; 64];
     let mut scratch = [0u64; 64];
     let m = 8 * n;
-    links::prepare(
+    links::read_rows(
         rows,
+        &mut table[..m],
+        &mut minutes[..n],
+        &mut parent_keys[..n],
+    );
+    links::prepare(
         start,
         list,
         &mut table[..m],
-        &mut minutes[..n],
         &mut parent_keys[..n],
         &mut numeral_keys[..n],
         &mut scratch[..n],
@@ -144,12 +148,16 @@ fn build_many(
     let mut numeral_keys = [0u64; 1024];
     let mut scratch = [0u64; 1024];
     let m = 8 * n;
-    links::prepare(
+    links::read_rows(
         rows,
+        &mut table[..m],
+        &mut minutes[..n],
+        &mut parent_keys[..n],
+    );
+    links::prepare(
         start,
         list,
         &mut table[..m],
-        &mut minutes[..n],
         &mut parent_keys[..n],
         &mut numeral_keys[..n],
         &mut scratch[..n],

@@ -12,7 +12,7 @@ use Rattle.paths.specs.Rows.{row, num, RowOf}
 use Rattle.paths.specs.Forest.{memb}
 use Rattle.request.specs.declared.Start.{Start}
 use Rattle.request.specs.declared.Start.the-variants.{ParentZero, Listed}
-use Rattle.sorting.specs.KeyLayer.{keysOf}
+use Rattle.sorting.specs.KeyLayer.{packed, keysOf}
 use Rattle.table.specs.TableLayer.{column, rowColumn, parentColumn, numeralColumn, childColumn, nextColumn, classColumn, parentPositionColumn, flagColumn}
 use Rattle.links.specs.LinksLayer.{Ordered, firsts, nexts}
 
@@ -42,12 +42,21 @@ pub record AnyPrepared (t : List ℕ) : Type 0 where
 
 -- ---- what the steps of the preparation leave
 
--- a row's number, parent and numeral are stored at position p
+-- the rows R are read: the keys of their orders, and by row number their parents in the column of children and their numerals in that of next siblings
+pub record RowsRead (R : List Row) (t keys : List ℕ) : Type 0 where
+  pub few : length R ≤ 1024
+  pub keys-are : keys ≡ packed 0 (map (λ (r : Row). r .order) R)
+  pub parents-are : childColumn t ≡ map (λ (r : Row). r .parent) R
+  pub numerals-are : nextColumn t ≡ map (λ (r : Row). r .numeral) R
+
+-- a row's number, parent and numeral are stored at position p, and what was read stays
 pub record RowStored (p number parent numeral : ℕ) (t t′ : List ℕ) : Type 0 where
   pub long : length t′ ≡ length t
   pub row-is : rowColumn t′ ≡ set (rowColumn t) p number
   pub parent-is : parentColumn t′ ≡ set (parentColumn t) p parent
   pub numeral-is : numeralColumn t′ ≡ set (numeralColumn t) p numeral
+  pub child-kept : childColumn t′ ≡ childColumn t
+  pub next-kept : nextColumn t′ ≡ nextColumn t
 
 -- no column but k differs
 pub record OthersKept (k : ℕ) (t t′ : List ℕ) : Type 0 where
