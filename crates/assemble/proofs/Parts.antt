@@ -7,6 +7,7 @@ use native.Mathlib.Omega.{arith}
 use lib.IntN.{ℤ}
 use lib.ListN.{length, take, drop, replicate, length-replicate}
 use lib.Seq.{length-take-le, length-front, take-at}
+use Rattle.lists.specs.StoreLaws.{take-replicate}
 use Rattle.board.specs.declared.Row.{Row}
 use Rattle.sorting.specs.KeyLayer.{PositionOrdered}
 use Rattle.table.specs.TableLayer.{rowColumn}
@@ -14,7 +15,7 @@ use Rattle.table.specs.TableLaws.{column-length}
 use Rattle.links.specs.PreparedLayer.{Prepared, StartFlags, WithNumerals, RowsRead}
 use Rattle.enumerate.specs.EnumerateLayer.{ClearWorkspace}
 use Rattle.assemble.specs.AssembledLayer.{PreparedRows}
-use Rattle.assemble.specs.AssembledLaws.{take-replicate, marks-none}
+use Rattle.assemble.specs.AssembledLaws.{marks-none}
 
 -- ---- the front of an array that was lent, written and given back, and is lent again
 

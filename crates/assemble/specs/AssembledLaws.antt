@@ -9,7 +9,7 @@ use native.Mathlib.Decide.{decLt}
 use borrow.Author.Tests.{ne-eqb, eqb-true}
 use lib.Dec.{eqb}
 use lib.IntN.{ℤ, pos}
-use lib.ListN.{List·getD-eq-default, length, getD, take, replicate, length-replicate, getD-replicate}
+use lib.ListN.{List·getD-eq-default, length, getD, replicate, length-replicate, getD-replicate}
 use Rattle.lists.specs.Lists.{_∈_, filter, numbers, totalsFrom, front}
 use Rattle.lists.specs.MemberLaws.{append-out, map-out, filter-in, filter-out, numbers-in, numbers-out}
 use Rattle.board.specs.declared.Row.{Row}
@@ -94,13 +94,6 @@ unreached-left R start depth =
     same f [] (y ∷ m) a b = absurd (b y (inl refl))
     same f (x ∷ l) [] a b = absurd (a x (inl refl))
     same f (x ∷ l) (y ∷ m) a b = sym (ne-eqb (suc (length m)) 0 (λ e. absurd (omega arith)))
-
--- ---- local arrays
-
-pub take-replicate : {A : Type 0} (n m : ℕ) (a : A) → n ≤ m → take n (replicate m a) ≡ replicate n a
-take-replicate zero m a h = refl
-take-replicate (suc n) zero a h = absurd (omega arith)
-take-replicate (suc n) (suc m) a h = ap (λ (l : List _). a ∷ l) (take-replicate n m a (omega arith))
 
 -- ---- the tests before the walk
 

@@ -4,7 +4,6 @@ use Rattle.refusals.specs.TestsLaws.{given-test, early-clear}
 use Rattle.assemble.specs.AssembledLaws.{early-start, early-built, seven-is}
 use borrow.Author.Needs.{needs}
 use native.Mathlib.Omega.{arith}
-use Prim.Native.Nat.{_-_}
 use Rattle.assemble.proofs.place_nodes.Statement.{statement}
 use Rattle.assemble.proofs.place_nodes.Tie as tie
 

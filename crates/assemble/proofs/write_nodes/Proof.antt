@@ -5,7 +5,7 @@ use Rattle.refusals.specs.TestsLaws.{capacity-bounds}
 use Rattle.assemble.specs.AssembledLaws.{nodes-over, nodes-fit, nodes-few, nodes-written, nodes-nine, nodes-finished, classes-of}
 use borrow.Author.Needs.{needs}
 use native.Mathlib.Omega.{arith}
-use Prim.Native.Nat.{ℕ, _-_}
+use Prim.Native.Nat.{ℕ}
 use lib.ListN.{length}
 use Rattle.assemble.proofs.write_nodes.Statement.{statement}
 use Rattle.assemble.proofs.write_nodes.Tie as tie
