@@ -19,10 +19,10 @@
  * even if the call is refused or ignores them. No slice that a call writes may overlap another slice of the call.
  *
  * Stack. Boards are passed and returned by value, and working space is on the stack. No call takes 256 KB of it.
- * Measured by tests/stack.c: a build 129 KB, a replay 123 KB, an edit 102 KB, flowpewter_empty 61 KB, flowpewter_sound
- * 53 KB, any other call next to nothing; a board in a variable of your own is 25 KB more. The usual 8 MB of a Linux
- * thread is plenty. A thread with a small stack is not: musl gives 128 KiB where nothing is said, and a build would run
- * over its end. There, ask for 512 KB by pthread_attr_setstacksize.
+ * Measured by tests/stack.c: a replay 123 KB, a build 107 KB, an edit 102 KB, flowpewter_empty 61 KB, flowpewter_sound
+ * 49 KB, any other call next to nothing; a board in a variable of your own is 25 KB more. The usual 8 MB of a Linux
+ * thread is plenty. A thread with a small stack is not: musl gives 128 KiB where nothing is said, and a build beside a
+ * board of your own would run over its end. There, ask for 512 KB by pthread_attr_setstacksize.
  *
  * Comparing boards. Two boards are the same when their counts, their first `count` rows, their kept numbers and their
  * first `kept` journal entries are. Don't compare them by memcmp: places beyond those hold what was left there,
@@ -282,7 +282,8 @@ flowpewter_summed flowpewter_subtree_sum(const uint32_t *index, size_t index_len
 flowpewter_summed flowpewter_path_sum(const uint32_t *index, size_t index_len, const int64_t *totals, size_t totals_len,
                                       uint32_t rank);
 
-/* Whether the slice holds an index whose words agree with each other, as every index that a build leaves does. */
+/* Whether the slice holds an index whose words agree with each other, as every index that an accepted build leaves
+ * does. */
 bool flowpewter_index_check(const uint32_t *index, size_t index_len);
 
 #ifdef __cplusplus
