@@ -29,20 +29,20 @@ module _ {A : Type 0} (n : ℕ) (written lent : List A) (same : length written �
 -- ---- n rows in arrays for as many rows or more
 
 module _ (n : ℕ) where
-  pub reading : (minutes : List ℤ) (table parentKeys : List ℕ) → n ≤ 1024 → n ≤ length minutes → 8 * n ≤ length table → n ≤ length parentKeys
-      → (length (take n minutes) ≤ 1024) × (length (take (8 * n) table) ≡ 8 * length (take n minutes)) × (length (take n parentKeys) ≡ length (take n minutes))
-  reading minutes table parentKeys few a b c =
+  pub reading : (minutes : List ℤ) (parentKeys numeralKeys : List ℕ) → n ≤ 1024 → n ≤ length minutes → n ≤ length parentKeys → n ≤ length numeralKeys
+      → (length (take n minutes) ≤ 1024) × (length (take n parentKeys) ≡ length (take n minutes)) × (length (take n numeralKeys) ≡ length (take n minutes))
+  reading minutes parentKeys numeralKeys few a b c =
       let m = length-take-le n minutes a in
-      (omega arith, length-take-le (8 * n) table b ∙ ap (λ (k : ℕ). 8 * k) (sym m), length-take-le n parentKeys c ∙ sym m)
+      (omega arith, length-take-le n parentKeys b ∙ sym m, length-take-le n numeralKeys c ∙ sym m)
 
   -- what was read is lent again
-  pub read-again : (rows : List Row) (table table₀ keys keys₀ : List ℕ) (minutes minutes₀ : List ℤ) → length table ≡ length (take (8 * n) table₀) → 8 * n ≤ length table₀ → length keys ≡ length (take n keys₀) → n ≤ length keys₀ → n ≤ length minutes₀
-      → RowsRead (take (length (take n minutes₀)) rows) table keys × PositionOrdered keys × (minutes ≡ map (λ (r : Row). r .minutes) (take (length (take n minutes₀)) rows))
-      → RowsRead (take n rows) (take (8 * n) (table ++ drop (8 * n) table₀)) (take n (keys ++ drop n keys₀)) × PositionOrdered (take n (keys ++ drop n keys₀))
-  read-again rows table table₀ keys keys₀ minutes minutes₀ a b c d e p =
-      let x = take-at table (drop (8 * n) table₀) (8 * n) (a ∙ length-take-le (8 * n) table₀ b) in
-      let y = take-at keys (drop n keys₀) n (c ∙ length-take-le n keys₀ d) in
-      (rw (x, y) (subst (λ (j : ℕ). RowsRead (take j rows) table keys) (length-take-le n minutes₀ e) (p .0)), subst PositionOrdered (sym y) (p .1))
+  pub read-again : (rows : List Row) (keys keys₀ fields fields₀ : List ℕ) (minutes minutes₀ : List ℤ) → length keys ≡ length (take n keys₀) → n ≤ length keys₀ → length fields ≡ length (take n fields₀) → n ≤ length fields₀ → n ≤ length minutes₀
+      → RowsRead (take (length (take n minutes₀)) rows) keys fields × PositionOrdered keys × (minutes ≡ map (λ (r : Row). r .minutes) (take (length (take n minutes₀)) rows))
+      → RowsRead (take n rows) (take n (keys ++ drop n keys₀)) (take n (fields ++ drop n fields₀)) × PositionOrdered (take n (keys ++ drop n keys₀))
+  read-again rows keys keys₀ fields fields₀ minutes minutes₀ a b c d e p =
+      let x = take-at keys (drop n keys₀) n (a ∙ length-take-le n keys₀ b) in
+      let y = take-at fields (drop n fields₀) n (c ∙ length-take-le n fields₀ d) in
+      (rw (x, y) (subst (λ (j : ℕ). RowsRead (take j rows) keys fields) (length-take-le n minutes₀ e) (p .0)), subst PositionOrdered (sym x) (p .1))
 
   pub preparing : (table parentKeys numeralKeys scratch : List ℕ) → n ≤ 1024 → 8 * n ≤ length table → n ≤ length parentKeys → n ≤ length numeralKeys → n ≤ length scratch → PositionOrdered (take n parentKeys)
       → (length (take n parentKeys) ≤ 1024) × (length (take (8 * n) table) ≡ 8 * length (take n parentKeys)) × PositionOrdered (take n parentKeys) × (length (take n numeralKeys) ≡ length (take n parentKeys)) × (length (take n scratch) ≡ length (take n parentKeys))

@@ -102,9 +102,9 @@ fn build_few(
     let m = 8 * n;
     links::read_rows(
         rows,
-        &mut table[..m],
         &mut minutes[..n],
         &mut parent_keys[..n],
+        &mut numeral_keys[..n],
     );
     links::prepare(
         start,
@@ -150,9 +150,9 @@ fn build_many(
     let m = 8 * n;
     links::read_rows(
         rows,
-        &mut table[..m],
         &mut minutes[..n],
         &mut parent_keys[..n],
+        &mut numeral_keys[..n],
     );
     links::prepare(
         start,

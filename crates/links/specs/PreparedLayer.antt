@@ -3,7 +3,7 @@ use mathlib.Core.Path.{_≡_}
 use mathlib.Core.Logic.{_≢_}
 use mathlib.Core.Bool.{Bool}
 use mathlib.Core.List.{List, map}
-use Prim.Native.Nat.{ℕ, _%_, _<_, _≤_}
+use Prim.Native.Nat.{ℕ, _/_, _%_, _<_, _≤_}
 use lib.Dec.{eqb}
 use lib.ListN.{length, getD, set}
 use Rattle.lists.specs.Choice.{bit}
@@ -42,21 +42,19 @@ pub record AnyPrepared (t : List ℕ) : Type 0 where
 
 -- ---- what the steps of the preparation leave
 
--- the rows R are read: the keys of their orders, and by row number their parents in the column of children and their numerals in that of next siblings
-pub record RowsRead (R : List Row) (t keys : List ℕ) : Type 0 where
+-- the rows R are read: the keys of their orders, and in each of the fields a row's parent above its numeral
+pub record RowsRead (R : List Row) (keys fields : List ℕ) : Type 0 where
   pub few : length R ≤ 1024
   pub keys-are : keys ≡ packed 0 (map (λ (r : Row). r .order) R)
-  pub parents-are : childColumn t ≡ map (λ (r : Row). r .parent) R
-  pub numerals-are : nextColumn t ≡ map (λ (r : Row). r .numeral) R
+  pub parents-are : map (λ x. x / 4294967296) fields ≡ map (λ (r : Row). r .parent) R
+  pub numerals-are : map (λ x. x % 4294967296) fields ≡ map (λ (r : Row). r .numeral) R
 
--- a row's number, parent and numeral are stored at position p, and what was read stays
+-- a row's number, parent and numeral are stored at position p
 pub record RowStored (p number parent numeral : ℕ) (t t′ : List ℕ) : Type 0 where
   pub long : length t′ ≡ length t
   pub row-is : rowColumn t′ ≡ set (rowColumn t) p number
   pub parent-is : parentColumn t′ ≡ set (parentColumn t) p parent
   pub numeral-is : numeralColumn t′ ≡ set (numeralColumn t) p numeral
-  pub child-kept : childColumn t′ ≡ childColumn t
-  pub next-kept : nextColumn t′ ≡ nextColumn t
 
 -- no column but k differs
 pub record OthersKept (k : ℕ) (t t′ : List ℕ) : Type 0 where
