@@ -81,7 +81,7 @@ fn bits_right(index: &[u32], k: usize) -> bool
     requires { ⌜ InIndex (now index) k ⌝ }
     ensures { λ r. ⌜ r ≡ bitsRight (now (index .entry)) k ⌝ }
 {
-    ((image::word_at(index, k) >> 16) & 16383) == 0
+    ((image::word_of(index, k) >> 16) & 16383) == 0
 }
 
 // The parent rank comes before the conditions that read the parent's words.

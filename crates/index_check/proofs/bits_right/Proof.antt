@@ -9,16 +9,16 @@ use Rattle.index_check.proofs.bits_right.Statement.{statement}
 use Rattle.index_check.proofs.bits_right.Tie as tie
 use Rattle.index_check.proofs.bits_right.Reads as reads
 use Rattle.index_check.proofs.bits_right.Lts as lts
-use Rattle.image.proofs.word_at.Reads as word-at-reads
+use Rattle.image.proofs.word_of.Reads as word-of-reads
 
-word-at-requires : tie.Need-word-at-requires
-word-at-requires c κs = search needs
+word-of-requires : tie.Need-word-of-requires
+word-of-requires c κs = search needs
 
 returns : tie.Need-returns
 unfolding bitsRight
 returns c =
-    ap (λ (x : ℕ). eqb x 0) (and-mask (c .word-at .result / 65536) 14)
-    ∙ ap (λ (x : ℕ). eqb (x / 2 ^ 16 % 2 ^ 14) 0) (c .word-at .ensures)
+    ap (λ (x : ℕ). eqb x 0) (and-mask (c .word-of .result / 65536) 14)
+    ∙ ap (λ (x : ℕ). eqb (x / 2 ^ 16 % 2 ^ 14) 0) (c .word-of .ensures)
 
 pub bits-right-spec : {M : Type 1} → statement M
-bits-right-spec = tie.close (tie.spec word-at-requires returns)
+bits-right-spec = tie.close (tie.spec word-of-requires returns)
