@@ -107,10 +107,11 @@ fn keeps(index: &[u32], k: usize, keep: Keep) -> bool
     requires { ⌜ (1 ≤ k) × (bodiesEnd k ≤ length (now index)) ⌝ }
     ensures { λ r. ⌜ r ≡ keepsAt (now (index .entry)) keep k ⌝ }
 {
-    let body = image::body_of(index, k);
     match keep {
-        Keep::Within(base, lo, hi) => is_within(body.level, base, lo, hi),
-        Keep::Under(parent) => body.parent == parent,
+        Keep::Within(base, lo, hi) => {
+            is_within(image::level_of(image::word_of(index, k)), base, lo, hi)
+        }
+        Keep::Under(parent) => image::body_of(index, k).parent == parent,
     }
 }
 
