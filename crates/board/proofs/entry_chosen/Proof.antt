@@ -1,0 +1,16 @@
+-- `board::entry_chosen` meets its contract. Assumes nothing.
+use borrow.Author.Tests.{not-false}
+use Rattle.board.specs.EditLayer.{chosen}
+use Rattle.board.proofs.entry_chosen.Statement.{statement}
+use Rattle.board.proofs.entry_chosen.Tie as tie
+
+returns : tie.Need-returns
+unfolding chosen
+returns c = simp (c .if1 .taken)
+
+returns-2 : tie.Need-returns-2
+unfolding chosen
+returns-2 c = simp (c .if1 .left)
+
+pub entry-chosen-spec : {M : Type 1} → statement M
+entry-chosen-spec = tie.close (tie.spec returns returns-2)
