@@ -108,7 +108,7 @@ module _ (b : Board) (e : Entry) (l : length (b .rows) ≡ 1024) (n : b .count �
   turned = go (eqb (e .kind) 0) (eqb (e .kind) 1) refl refl where
     go : (s t : Bool) → eqb (e .kind) 0 ≡ s → eqb (e .kind) 1 ≡ t
         → _≡_ {A = Entry} (cond s (record { kind = 1; at = e .at; row = getD (b .rows) (e .at) blank })
-            (cond t (record { kind = 0; at = e .at; row = e .row }) (record { kind = 2; at = e .at; row = getD (b .rows) (e .at) blank }))) (inverse e (rowsOf b))
+        (cond t (record { kind = 0; at = e .at; row = e .row }) (record { kind = 2; at = e .at; row = getD (b .rows) (e .at) blank }))) (inverse e (rowsOf b))
     go true t f g = out-back (λ h. omega (arith, h, eqb-true (e .kind) 0 f)) (eqb-true (e .kind) 0 f)
     go false true f g = in-back (eqb-true (e .kind) 1 g)
     go false false f g = set-back (eqb-false (e .kind) 1 g) (eqb-false (e .kind) 0 f)
@@ -118,4 +118,3 @@ module _ (b : Board) (e : Entry) (l : length (b .rows) ≡ 1024) (n : b .count �
     go : (t : Bool) → eqb (e .kind) 1 ≡ t → e .at < 1024
     go true g = omega (arith, in-place (eqb-true (e .kind) 1 g), in-room (eqb-true (e .kind) 1 g))
     go false g = omega (arith, at-place (eqb-false (e .kind) 1 g))
-

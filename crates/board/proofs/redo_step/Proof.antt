@@ -16,7 +16,7 @@ at-most-256-requires : tie.Need-at-most-256-requires
 at-most-256-requires c κs = search needs
 
 moves-for-requires : tie.Need-moves-for-requires
-moves-for-requires c κs = rw (c .at-most-256 .ensures) (few-le (c .before .before .before .args .undone))
+moves-for-requires c κs = rw (c .at-most-256 .ensures) (few-le _)
 
 add-t7 : tie.Need-add-t7
 add-t7 c = record { fits = omega (arith, c .before .before .before .room-after .ensures, room-less (c .before .before .before .before .args .kept)) }

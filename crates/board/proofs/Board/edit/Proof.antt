@@ -194,9 +194,14 @@ long-rows c = ap (λ (p : List Row). length p) (rows-same (known c .before .befo
 -- the board that the call leaves, from its rows
 left : (c : Turned) (n : ℕ) (f : List Row → List Row) → n ≡ length (carried (entry (known c)) (rowsOf (self (taken (known c) .before))))
     → f (self (taken (known c) .before) .rows) ≡ front (carried (entry (known c)) (rowsOf (self (taken (known c) .before)))) (self (taken (known c) .before) .rows)
-    → _≡_ {A = Board} (record { count = n; rows = f (known c .before .before .before .before .before .loop2 .next .rows); kept = step (taken (known c) .before) .kept; undone = step (taken (known c) .before) .undone;
-      journal = set (known c .before .before .before .before .before .loop2 .next .journal) (step (taken (known c) .before) .place) (c .inverse-of .result) })
-      (boardAfter (self (taken (known c) .before)) (call (taken (known c) .before)))
+    → _≡_ {A = Board} (record {
+      count = n;
+      rows = f (known c .before .before .before .before .before .loop2 .next .rows);
+      kept = step (taken (known c) .before) .kept;
+      undone = step (taken (known c) .before) .undone;
+      journal = set (known c .before .before .before .before .before .loop2 .next .journal) (step (taken (known c) .before) .place) (c .inverse-of .result);
+    })
+    (boardAfter (self (taken (known c) .before)) (call (taken (known c) .before)))
 left c n f hn hf =
     let k = known c in
     let b = self (taken k .before) in
@@ -465,10 +470,10 @@ loop4-again c =
     )
 
 mul-row : tie.Need-mul-row Inv-loop μ-loop Inv-loop2 μ-loop2 Inv-loop3 μ-loop3 Inv-loop4 μ-loop4
-mul-row c = record { fits = omega (arith, below (known (c .before .before .before .before))) }
+mul-row c = record { fits = omega (arith, c .before .loop4 .inv .1, c .before .loop4 .inv .2) }
 
 element-set-from-row : tie.Need-element-set-from-row Inv-loop μ-loop Inv-loop2 μ-loop2 Inv-loop3 μ-loop3 Inv-loop4 μ-loop4
-element-set-from-row c = below (known (c .before .before .before .before))
+element-set-from-row c = omega (arith, c .before .loop4 .inv .1, c .before .loop4 .inv .2)
 
 add-next-3 : tie.Need-add-next-3 Inv-loop μ-loop Inv-loop2 μ-loop2 Inv-loop3 μ-loop3 Inv-loop4 μ-loop4
 add-next-3 c = record { fits = omega (arith, c .before .loop4 .inv .2) }
@@ -485,8 +490,8 @@ returns-3 c =
     let row = q .before .row-chosen .result in
     let e : l .k ≡ found k .at = omega (arith, l .inv .0, c .loop4-test .left) in
     let made =
-    ap (λ (y : Board). record { count = b .count + 1; rows = set (y .rows) (found k .at) row; kept = y .kept; undone = y .undone; journal = y .journal }) (l .inv .4)
-    ∙ ap (λ (j : ℕ). record { count = b .count + 1; rows = set (movedDown (x .rows) j (b .count)) (found k .at) row; kept = s .kept; undone = s .undone; journal = set (x .journal) (s .place) (q .inverse-of .result) }) e
+    ap (λ (y : Board). record { count = b .count + 1; rows = set (y .rows) (l .k) row; kept = y .kept; undone = y .undone; journal = y .journal }) (l .inv .4)
+    ∙ ap (λ (j : ℕ). record { count = b .count + 1; rows = set (movedDown (x .rows) j (b .count)) j row; kept = s .kept; undone = s .undone; journal = set (x .journal) (s .place) (q .inverse-of .result) }) e
     ∙ left q (b .count + 1) (λ p. set (movedDown p (found k .at) (b .count)) (found k .at) row) (in-count b (entry k) (whole k) (small k) (can k) k₁)
     (ap (λ (w : Row). set (movedDown (b .rows) (found k .at) (b .count)) (found k .at) w) (row-is q) ∙ in-rows b (entry k) (whole k) (small k) (can k) k₁) in
     (λ i. record { board = made i; refusal = 0 }) ∙ sym (carries (taken k) .answer)
