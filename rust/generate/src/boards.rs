@@ -1,20 +1,21 @@
 //! Boards made by hand, sound and unsound, with noise in the words beyond.
 
 use crate::random::Random;
-use reference::{Board, Entry, Row, MAX_KEPT, MAX_ROWS};
+use reference::board::{carried_out, PUT_IN, SET, TAKE_OUT};
+use reference::{Board, Entry, Row, MAX_KEPT, MAX_ROWS, MAX_UNDONE};
 
 /// An entry of any words.
 pub fn any_entry(random: &mut Random) -> Entry {
     Entry {
         kind: if random.chance(3, 4) { random.below(3) as u32 } else { random.word() },
-        at: random.place(0),
+        at: random.place(0) as u32,
         row: random.any_row(),
     }
 }
 
 /// A board with the given numbers: held rows with numeral 1 or more, noise in
 /// all other words, numeral 0 and bad entries among them.
-pub fn noisy_board(random: &mut Random, count: usize, kept: usize) -> Board {
+pub fn noisy_board(random: &mut Random, count: usize, kept: usize, undone: usize) -> Board {
     let mut board = Board::EMPTY;
     for (place, row) in board.rows.iter_mut().enumerate() {
         *row = if place < count { random.row() } else { random.any_row() };
@@ -24,72 +25,213 @@ pub fn noisy_board(random: &mut Random, count: usize, kept: usize) -> Board {
     }
     board.count = count;
     board.kept = kept;
+    board.undone = undone;
     board
 }
 
-/// A noisy board whose newest entry is given; `kept` is at least 1.
-fn with_newest(random: &mut Random, count: usize, newest: Entry) -> Board {
-    let kept = random.pick(&[1, 2, 17, MAX_KEPT]);
-    let mut board = noisy_board(random, count, kept);
-    board.journal[kept - 1] = newest;
+/// A noisy board with the given newest entries, kept and undone; 1, 2, 17 or
+/// 256 steps where one is given, no step where none is.
+fn with_newest(
+    random: &mut Random,
+    count: usize,
+    newest_kept: Option<Entry>,
+    newest_undone: Option<Entry>,
+) -> Board {
+    let kept = if newest_kept.is_some() { random.pick(&[1, 2, 17, MAX_KEPT]) } else { 0 };
+    let undone = if newest_undone.is_some() { random.pick(&[1, 2, 17, MAX_UNDONE]) } else { 0 };
+    let mut board = noisy_board(random, count, kept, undone);
+    if let Some(entry) = newest_kept {
+        board.journal[kept - 1] = entry;
+    }
+    if let Some(entry) = newest_undone {
+        board.journal[kept] = entry;
+    }
     board
 }
 
 /// A sound board that holds `rows`, at most 1,024 with numeral 1 or more, with
-/// noise in all other words; its newest entry, if any, can be undone.
+/// noise in all other words; its newest entries, if any, can be carried out.
 pub fn holding(random: &mut Random, rows: &[Row]) -> Board {
     let count = rows.len();
-    let mut board = if count == 0 || random.chance(1, 3) {
-        noisy_board(random, count, 0)
-    } else {
-        let newest = match random.below(3) {
-            1 if count < MAX_ROWS => {
-                let at = random.between(0, count);
-                good(random, 1, at)
-            }
-            2 => {
-                let at = random.below(count);
-                good(random, 2, at)
-            }
-            _ => Entry { kind: 0, ..any_entry(random) },
-        };
-        with_newest(random, count, newest)
-    };
+    let newest_kept = some_good_entry(random, count);
+    let newest_undone = some_good_entry(random, count);
+    let mut board = with_newest(random, count, newest_kept, newest_undone);
     board.rows[..count].copy_from_slice(rows);
     board
 }
 
+/// A board of the given numbers, at most 1,024, 256 and 256, whose every entry
+/// can be carried out in its turn, so that its journal gives a K and an F of
+/// that many lists. The words beyond are noise.
+pub fn stepped_board(random: &mut Random, count: usize, kept: usize, undone: usize) -> Board {
+    let mut board = noisy_board(random, count, kept, undone);
+    for (step, entry) in chain(random, board.held(), kept).into_iter().enumerate() {
+        board.journal[kept - 1 - step] = entry;
+    }
+    for (step, entry) in chain(random, board.held(), undone).into_iter().enumerate() {
+        board.journal[kept + step] = entry;
+    }
+    board
+}
+
+/// Entries that can be carried out one after the other, the first on `rows`.
+fn chain(random: &mut Random, rows: &[Row], length: usize) -> Vec<Entry> {
+    let mut rows = rows.to_vec();
+    let mut entries = Vec::new();
+    for _ in 0..length {
+        let entry = good_entry(random, rows.len());
+        rows = carried_out(&rows, &entry).expect("an entry that can be carried out");
+        entries.push(entry);
+    }
+    entries
+}
+
+/// An entry that can be carried out on `count` rows with numeral 1 or more; the
+/// own row of one that takes out is noise.
+fn good_entry(random: &mut Random, count: usize) -> Entry {
+    let mut kinds = Vec::new();
+    if count > 0 {
+        kinds.extend([TAKE_OUT, SET]);
+    }
+    if count < MAX_ROWS {
+        kinds.push(PUT_IN);
+    }
+    match random.pick(&kinds) {
+        PUT_IN => {
+            let at = random.between(0, count);
+            good(random, PUT_IN, at)
+        }
+        SET => {
+            let at = random.below(count);
+            good(random, SET, at)
+        }
+        _ => {
+            let at = random.below(count) as u32;
+            Entry { kind: TAKE_OUT, at, row: random.any_row() }
+        }
+    }
+}
+
+/// None, or an entry that can be carried out on `count` rows.
+fn some_good_entry(random: &mut Random, count: usize) -> Option<Entry> {
+    if random.chance(1, 3) {
+        None
+    } else {
+        Some(good_entry(random, count))
+    }
+}
+
+/// An entry that can't be carried out on `count` rows.
+fn bad_entry(random: &mut Random, count: usize) -> Entry {
+    match random.below(6) {
+        0 => good(random, 3, 0),
+        1 => good(random, TAKE_OUT, count),
+        2 => good(random, PUT_IN, count + 1),
+        3 => nought(random, PUT_IN, 0),
+        4 => good(random, SET, count),
+        _ => nought(random, SET, 0),
+    }
+}
+
 fn good(random: &mut Random, kind: u32, at: usize) -> Entry {
-    Entry { kind, at, row: random.row() }
+    Entry { kind, at: at as u32, row: random.row() }
 }
 
 fn nought(random: &mut Random, kind: u32, at: usize) -> Entry {
-    Entry { kind, at, row: Row { numeral: 0, ..random.row() } }
+    Entry { kind, at: at as u32, row: Row { numeral: 0, ..random.row() } }
 }
 
-/// One board of each kind of unsoundness, with its name.
+/// A kind of newest entry: its names as a kept and as an undone one, the number
+/// of rows it is for, and the entry.
+type Newest = ([&'static str; 2], usize, Entry);
+
+macro_rules! both {
+    ($name:literal) => {
+        [concat!("kept ", $name), concat!("undone ", $name)]
+    };
+}
+
+/// One entry of each kind that can't be carried out.
+fn bad_entries(random: &mut Random) -> Vec<Newest> {
+    let count = random.between(1, 40);
+    let some = random.pick(&[0, 1, 5, 1_000, MAX_ROWS]);
+    let short = some.min(MAX_ROWS - 1);
+    let widest = u32::MAX as usize;
+    let (inside, within) = (random.below(count), random.between(0, count));
+    let anywhere = random.between(0, MAX_ROWS);
+    vec![
+        (both!("take-out from no rows"), 0, good(random, TAKE_OUT, 0)),
+        (both!("take-out at the end"), some, good(random, TAKE_OUT, some)),
+        (both!("take-out at the widest place"), count, good(random, TAKE_OUT, widest)),
+        (both!("take-out beyond the places"), MAX_ROWS, good(random, TAKE_OUT, MAX_ROWS)),
+        (both!("put-in beyond the end"), short, good(random, PUT_IN, short + 1)),
+        (both!("put-in at the widest place"), count, good(random, PUT_IN, widest)),
+        (both!("put-in on 1,024 rows"), MAX_ROWS, good(random, PUT_IN, anywhere)),
+        (both!("put-in of numeral 0"), count, nought(random, PUT_IN, within)),
+        (both!("set at the end"), some, good(random, SET, some)),
+        (both!("set at the widest place"), count, good(random, SET, widest)),
+        (both!("set beyond the places"), MAX_ROWS, good(random, SET, MAX_ROWS)),
+        (both!("set to numeral 0"), count, nought(random, SET, inside)),
+        (both!("entry of kind 3"), count, good(random, 3, 0)),
+        (both!("entry of the widest kind"), count, good(random, u32::MAX, 0)),
+    ]
+}
+
+/// One entry of each kind that can be carried out.
+fn good_entries(random: &mut Random) -> Vec<Newest> {
+    let count = random.between(1, 40);
+    let inside = random.below(count);
+    vec![
+        (both!("take-out of the first row"), count, good(random, TAKE_OUT, 0)),
+        (both!("take-out with an unused numeral 0"), count, nought(random, TAKE_OUT, inside)),
+        (both!("take-out of the last row"), count, good(random, TAKE_OUT, count - 1)),
+        (both!("take-out of the only row"), 1, good(random, TAKE_OUT, 0)),
+        (both!("take-out of the last place"), MAX_ROWS, nought(random, TAKE_OUT, MAX_ROWS - 1)),
+        (both!("put-in at the front"), count, good(random, PUT_IN, 0)),
+        (both!("put-in at the end"), count, good(random, PUT_IN, count)),
+        (both!("put-in of the only row"), 0, good(random, PUT_IN, 0)),
+        (both!("put-in of the last place"), MAX_ROWS - 1, good(random, PUT_IN, MAX_ROWS - 1)),
+        (both!("set of a whole row"), count, good(random, SET, inside)),
+        (both!("set of the last place"), MAX_ROWS, good(random, SET, MAX_ROWS - 1)),
+    ]
+}
+
+/// One board of each kind of unsoundness, with its name: a number beyond the
+/// places, a held row with numeral 0, a newest kept or a newest undone entry
+/// that can't be carried out, and full journals where one such entry stands
+/// among good ones.
 pub fn unsound_boards(random: &mut Random) -> Vec<(&'static str, Board)> {
     let mut list = Vec::new();
     let count = random.between(1, 40);
-    let some = random.pick(&[0, 1, 5, 1_000, MAX_ROWS]);
 
     for (name, count) in [
         ("count one above the places", MAX_ROWS + 1),
         ("count of the widest word", usize::MAX),
         ("count above 32 bits", 1 << 40),
     ] {
-        let mut board = noisy_board(random, MAX_ROWS, 0);
+        let mut board = noisy_board(random, MAX_ROWS, 0, 0);
         board.count = count;
         list.push((name, board));
     }
+    // Wherever the newest entries are looked for, they can be carried out.
     for (name, kept) in [
         ("kept number one above the places", MAX_KEPT + 1),
         ("kept number of the widest word", usize::MAX),
         ("kept number above 32 bits", 1 << 40),
     ] {
-        let mut board = noisy_board(random, count, MAX_KEPT);
-        board.journal[MAX_KEPT - 1] = good(random, 2, 0);
-        board.kept = kept;
+        let undone = random.pick(&[0, 1, MAX_UNDONE]);
+        let mut board = noisy_board(random, count, kept, undone);
+        board.journal.fill_with(|| good_entry(random, count));
+        list.push((name, board));
+    }
+    for (name, undone) in [
+        ("undone number one above the places", MAX_UNDONE + 1),
+        ("undone number of the widest word", usize::MAX),
+        ("undone number above 32 bits", 1 << 40),
+    ] {
+        let kept = random.pick(&[0, 1, MAX_KEPT]);
+        let mut board = noisy_board(random, count, kept, undone);
+        board.journal.fill_with(|| good_entry(random, count));
         list.push((name, board));
     }
     for (name, place) in [
@@ -97,71 +239,82 @@ pub fn unsound_boards(random: &mut Random) -> Vec<(&'static str, Board)> {
         ("last held row with numeral 0", count - 1),
         ("some held row with numeral 0", random.below(count)),
     ] {
-        let mut board = noisy_board(random, count, 0);
+        let mut board = noisy_board(random, count, 0, 0);
         board.rows[place].numeral = 0;
         list.push((name, board));
     }
 
-    let entry = any_entry(random);
-    let board = with_newest(random, 0, Entry { kind: 0, ..entry });
-    list.push(("add of no row", board));
-
-    for (name, count, at) in [
-        ("withdrawal beyond the end", some.min(MAX_ROWS - 1), some.min(MAX_ROWS - 1) + 1),
-        ("withdrawal at the widest place", count, usize::MAX),
-        ("withdrawal from 1,024 rows", MAX_ROWS, random.between(0, MAX_ROWS)),
-    ] {
-        let entry = good(random, 1, at);
-        list.push((name, with_newest(random, count, entry)));
+    for ([name, _], count, entry) in bad_entries(random) {
+        let newest_undone = some_good_entry(random, count);
+        list.push((name, with_newest(random, count, Some(entry), newest_undone)));
     }
-    let at = random.between(0, count);
-    let entry = nought(random, 1, at);
-    list.push(("withdrawn row with numeral 0", with_newest(random, count, entry)));
-
-    for (name, count, at) in [
-        ("remark at the end", some, some),
-        ("remark at the widest place", count, usize::MAX),
-        ("remark beyond the places", MAX_ROWS, MAX_ROWS),
-    ] {
-        let entry = good(random, 2, at);
-        list.push((name, with_newest(random, count, entry)));
+    for ([_, name], count, entry) in bad_entries(random) {
+        let newest_kept = some_good_entry(random, count);
+        list.push((name, with_newest(random, count, newest_kept, Some(entry))));
     }
-    let at = random.below(count);
-    let entry = nought(random, 2, at);
-    list.push(("remarked row with numeral 0", with_newest(random, count, entry)));
 
-    for (name, kind) in [("entry of kind 3", 3), ("entry of the widest kind", u32::MAX)] {
-        let entry = good(random, kind, 0);
-        list.push((name, with_newest(random, count, entry)));
+    for (name, places) in [
+        ("full journal, bad newest kept entry", &[MAX_KEPT - 1][..]),
+        ("full journal, bad newest undone entry", &[MAX_KEPT]),
+        ("full journal, both newest entries bad", &[MAX_KEPT - 1, MAX_KEPT]),
+    ] {
+        let mut board = stepped_board(random, count, MAX_KEPT, MAX_UNDONE);
+        for place in places {
+            board.journal[*place] = bad_entry(random, count);
+        }
+        list.push((name, board));
     }
     list
 }
 
-/// Sound boards no history makes, with their names.
+/// Sound boards no history makes, with their names: noise beyond the numbers, a
+/// newest kept or a newest undone entry of each kind that can be carried out,
+/// bad entries where none is looked at, and journals of up to 256 kept and 256
+/// undone entries that can all be carried out in their turn.
 pub fn sound_boards(random: &mut Random) -> Vec<(&'static str, Board)> {
     let mut list = Vec::new();
     let count = random.between(1, 40);
-    list.push(("no rows, no entries, noise", noisy_board(random, 0, 0)));
-    list.push(("rows, no entries, noise", noisy_board(random, count, 0)));
-    list.push(("all places, no entries", noisy_board(random, MAX_ROWS, 0)));
-    let unused = Entry { kind: 0, at: usize::MAX, row: Row { numeral: 0, ..random.row() } };
-    list.push(("add with unused words", with_newest(random, count, unused)));
-    list.push(("add of the last place", with_newest(random, MAX_ROWS, unused)));
-    for (name, count, at) in [
-        ("withdrawal from the front", count, 0),
-        ("withdrawal from the end", count, count),
-        ("withdrawal of the only row", 0, 0),
-        ("withdrawal of the last place", MAX_ROWS - 1, MAX_ROWS - 1),
-    ] {
-        let entry = good(random, 1, at);
-        list.push((name, with_newest(random, count, entry)));
+    list.push(("no rows, no entries, noise", noisy_board(random, 0, 0, 0)));
+    list.push(("rows, no entries, noise", noisy_board(random, count, 0, 0)));
+    list.push(("all places, no entries", noisy_board(random, MAX_ROWS, 0, 0)));
+    for ([name, _], count, entry) in good_entries(random) {
+        let newest_undone = some_good_entry(random, count);
+        list.push((name, with_newest(random, count, Some(entry), newest_undone)));
     }
-    for (name, count, at) in [
-        ("remark that changes the whole row", count, count - 1),
-        ("remark of the last place", MAX_ROWS, MAX_ROWS - 1),
+    for ([_, name], count, entry) in good_entries(random) {
+        let newest_kept = some_good_entry(random, count);
+        list.push((name, with_newest(random, count, newest_kept, Some(entry))));
+    }
+
+    // Only the two newest entries are looked at, and those by the two numbers alone.
+    for (name, kept, undone) in [
+        ("bad entry behind the kept ones", MAX_KEPT, 0),
+        ("bad entry behind the undone ones", 0, MAX_UNDONE),
+        ("full journal, good newest entries alone", MAX_KEPT, MAX_UNDONE),
     ] {
-        let entry = good(random, 2, at);
-        list.push((name, with_newest(random, count, entry)));
+        let mut board = noisy_board(random, count, kept, undone);
+        board.journal.fill_with(|| bad_entry(random, count));
+        if kept > 0 {
+            board.journal[kept - 1] = good_entry(random, count);
+        }
+        if undone > 0 {
+            board.journal[kept] = good_entry(random, count);
+        }
+        list.push((name, board));
+    }
+
+    let (some_kept, some_undone) = (random.between(1, 255), random.between(1, 255));
+    for (name, count, kept, undone) in [
+        ("steps, some kept and some undone", count, some_kept, some_undone),
+        ("steps, 256 undone alone", count, 0, MAX_UNDONE),
+        ("steps, 256 kept and some undone", count, MAX_KEPT, some_undone),
+        ("steps, 256 kept and 1 undone", count, MAX_KEPT, 1),
+        ("steps, some kept and 256 undone", count, some_kept, MAX_UNDONE),
+        ("steps, 256 kept and 256 undone", count, MAX_KEPT, MAX_UNDONE),
+        ("steps, 256 kept and 256 undone on no rows", 0, MAX_KEPT, MAX_UNDONE),
+        ("steps, 256 kept and 256 undone on all places", MAX_ROWS, MAX_KEPT, MAX_UNDONE),
+    ] {
+        list.push((name, stepped_board(random, count, kept, undone)));
     }
     list
 }

@@ -1,29 +1,36 @@
-//! Random lists of edit calls from an empty board.
+//! Random lists of edit calls, from an empty board and on boards made by hand.
 
 use crate::random::Random;
-use reference::{Call, Row, MAX_KEPT, MAX_ROWS};
+use reference::{Call, Machine, Row, MAX_KEPT, MAX_ROWS, MAX_UNDONE};
 
 /// Kind of history.
 #[derive(Clone, Copy, Debug, PartialEq, Eq)]
 pub enum History {
     /// Up to 80 calls on a few rows.
     Small,
-    /// Beyond 256 kept steps, then undone to the bottom and once more.
+    /// Beyond 256 kept steps, then undone to the bottom and once more, then
+    /// sometimes redone to the top and once more.
     Deep,
     /// Filled to 1,024 rows, then calls at the limit.
     Full,
     /// Row numbers and rows of any words.
     Wild,
+    /// Runs of undos and of redos, of any length, to the bottom and to the top
+    /// and one step further, with edits in between after which nothing is undone.
+    Runs,
 }
 
 /// All kinds.
-pub const HISTORIES: [History; 4] = [History::Small, History::Deep, History::Full, History::Wild];
+pub const HISTORIES: [History; 5] =
+    [History::Small, History::Deep, History::Full, History::Wild, History::Runs];
 
-/// Calls made so far, with the row count and the counts kept for undo.
+/// Calls made so far, with the row count and the row counts of the kept and of
+/// the undone steps, newest last.
 struct Writer {
     calls: Vec<Call>,
     count: usize,
     kept: Vec<usize>,
+    undone: Vec<usize>,
 }
 
 impl Writer {
@@ -34,29 +41,44 @@ impl Writer {
         }
     }
 
+    /// Follows an accepted add, withdrawal or remark.
+    fn edit(&mut self, count: usize) {
+        self.keep();
+        self.count = count;
+        self.undone.clear();
+    }
+
     /// Notes a call and follows its count.
     fn call(&mut self, call: Call) {
         self.calls.push(call);
         match call {
             Call::Add(row) => {
                 if row.numeral != 0 && self.count < MAX_ROWS {
-                    self.keep();
-                    self.count += 1;
+                    self.edit(self.count + 1);
                 }
             }
             Call::Withdraw(k) => {
                 if (1..=self.count).contains(&k) {
-                    self.keep();
-                    self.count -= 1;
+                    self.edit(self.count - 1);
                 }
             }
             Call::Remark(k, _) => {
                 if (1..=self.count).contains(&k) {
-                    self.keep();
+                    self.edit(self.count);
                 }
             }
             Call::Undo => {
                 if let Some(count) = self.kept.pop() {
+                    self.undone.push(self.count);
+                    if self.undone.len() > MAX_UNDONE {
+                        self.undone.remove(0);
+                    }
+                    self.count = count;
+                }
+            }
+            Call::Redo => {
+                if let Some(count) = self.undone.pop() {
+                    self.keep();
                     self.count = count;
                 }
             }
@@ -76,7 +98,7 @@ impl Writer {
     }
 
     /// A call that is accepted where one can be, by the given weights.
-    fn weighted(&mut self, random: &mut Random, weights: [usize; 4]) {
+    fn weighted(&mut self, random: &mut Random, weights: [usize; 5]) {
         let mut at = random.below(weights.iter().sum());
         let mut kind = 0;
         while at >= weights[kind] {
@@ -87,9 +109,45 @@ impl Writer {
             0 => Call::Add(random.row()),
             1 => Call::Withdraw(self.number(random)),
             2 => Call::Remark(self.number(random), random.minutes()),
-            _ => Call::Undo,
+            3 => Call::Undo,
+            _ => Call::Redo,
         };
         self.call(call);
+    }
+
+    /// The same call a number of times.
+    fn repeat(&mut self, call: Call, times: usize) {
+        for _ in 0..times {
+            self.call(call);
+        }
+    }
+
+    /// A run of undos or of redos: to the end and one step further, just to the
+    /// end, a few steps, or any number there are.
+    fn run(&mut self, random: &mut Random) {
+        let (call, there) = if random.chance(1, 2) {
+            (Call::Undo, self.kept.len())
+        } else {
+            (Call::Redo, self.undone.len())
+        };
+        let times = match random.below(6) {
+            0 => there + 1,
+            1 => there,
+            2 | 3 => random.between(1, 4),
+            _ => random.between(0, there),
+        };
+        self.repeat(call, times);
+    }
+
+    /// Some runs one after the other; now and then a call that is refused and
+    /// so leaves what is undone.
+    fn runs(&mut self, random: &mut Random) {
+        for _ in 0..random.between(1, 6) {
+            self.run(random);
+            if random.chance(1, 4) {
+                self.refused(random);
+            }
+        }
     }
 
     /// A call that refusals 2 to 4 hit: numeral 0, number 0, number above the count.
@@ -107,34 +165,44 @@ impl Writer {
     }
 }
 
-/// A random list of calls.
+/// A random list of calls from an empty board.
 pub fn history(random: &mut Random, kind: History) -> Vec<Call> {
-    let mut writer = Writer { calls: Vec::new(), count: 0, kept: Vec::new() };
+    let mut writer = Writer { calls: Vec::new(), count: 0, kept: Vec::new(), undone: Vec::new() };
     match kind {
         History::Small => {
             for _ in 0..random.below(80) {
                 if random.chance(1, 8) {
                     writer.refused(random);
                 } else {
-                    writer.weighted(random, [5, 2, 3, 3]);
+                    writer.weighted(random, [5, 2, 3, 4, 3]);
                 }
             }
         }
         History::Deep => {
             for _ in 0..random.between(257, 500) {
-                writer.weighted(random, [3, 2, 5, 0]);
+                writer.weighted(random, [3, 2, 5, 0, 0]);
                 if random.chance(1, 40) {
                     writer.refused(random);
                 }
                 if random.chance(1, 30) {
                     writer.call(Call::Undo);
                 }
+                if random.chance(1, 60) {
+                    writer.call(Call::Redo);
+                }
             }
-            for _ in 0..MAX_KEPT + 1 {
-                writer.call(Call::Undo);
+            // Whatever was refused or undone: 256 steps are kept, and one more loses the oldest.
+            while writer.kept.len() < MAX_KEPT {
+                writer.weighted(random, [3, 2, 5, 0, 0]);
+            }
+            let row = random.row();
+            writer.call(Call::Add(row));
+            writer.repeat(Call::Undo, MAX_KEPT + 1);
+            if random.chance(1, 2) {
+                writer.repeat(Call::Redo, MAX_KEPT + 1);
             }
             for _ in 0..random.below(20) {
-                writer.weighted(random, [3, 1, 1, 2]);
+                writer.weighted(random, [3, 1, 1, 2, 2]);
             }
         }
         History::Full => {
@@ -143,31 +211,65 @@ pub fn history(random: &mut Random, kind: History) -> Vec<Call> {
                 writer.call(Call::Add(row));
             }
             for _ in 0..random.between(20, 400) {
-                match random.below(6) {
+                match random.below(7) {
                     0 => writer.refused(random),
                     1 => writer.call(Call::Undo),
-                    _ => writer.weighted(random, [6, 2, 2, 1]),
+                    2 => writer.call(Call::Redo),
+                    _ => writer.weighted(random, [6, 2, 2, 1, 1]),
                 }
             }
             if random.chance(1, 2) {
-                for _ in 0..MAX_KEPT + 1 {
-                    writer.call(Call::Undo);
-                }
+                writer.repeat(Call::Undo, MAX_KEPT + 1);
+                writer.repeat(Call::Redo, random.between(0, MAX_KEPT + 1));
             }
         }
         History::Wild => {
             for _ in 0..random.below(120) {
                 let near = writer.count;
-                let call = match random.below(4) {
+                let call = match random.below(5) {
                     0 => Call::Add(random.any_row()),
                     1 => Call::Withdraw(random.place(near)),
                     2 => Call::Remark(random.place(near), random.minutes()),
-                    _ => Call::Undo,
+                    3 => Call::Undo,
+                    _ => Call::Redo,
                 };
                 writer.call(call);
-                writer.weighted(random, [4, 1, 2, 1]);
+                writer.weighted(random, [4, 1, 2, 1, 1]);
             }
         }
+        History::Runs => {
+            for _ in 0..random.between(2, 8) {
+                let edits = match random.below(8) {
+                    0 => random.between(250, 300),
+                    1..=3 => 1,
+                    _ => random.between(2, 30),
+                };
+                for _ in 0..edits {
+                    writer.weighted(random, [4, 2, 4, 0, 0]);
+                }
+                writer.runs(random);
+            }
+        }
+    }
+    writer.calls
+}
+
+/// A random list of calls on a board whose journal gives the K and F of
+/// `machine`: runs of undos and redos, with few edits in between.
+pub fn history_on(random: &mut Random, machine: &Machine) -> Vec<Call> {
+    let counts = |lists: &[Vec<Row>]| lists.iter().rev().map(Vec::len).collect();
+    let mut writer = Writer {
+        calls: Vec::new(),
+        count: machine.rows.len(),
+        kept: counts(&machine.kept),
+        undone: counts(&machine.undone),
+    };
+    writer.runs(random);
+    for _ in 0..random.below(4) {
+        if random.chance(1, 2) {
+            writer.weighted(random, [2, 1, 1, 0, 0]);
+        }
+        writer.runs(random);
     }
     writer.calls
 }

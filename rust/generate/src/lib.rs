@@ -3,7 +3,8 @@
 //!
 //! Every generator is a plain function of a [`Random`]; the same seed gives the
 //! same cases. The reference is used only to learn how long a slice a case
-//! needs and to obtain built indexes to damage.
+//! needs, to obtain built indexes to damage, and to follow the rows that the
+//! entries of a journal lead to.
 #![forbid(unsafe_code)]
 
 pub mod boards;
@@ -13,9 +14,9 @@ pub mod indexes;
 pub mod listings;
 pub mod random;
 
-pub use boards::{holding, sound_boards, unsound_boards};
+pub use boards::{holding, sound_boards, stepped_board, unsound_boards};
 pub use builds::{build_case, rows, BuildCase, Shape, SHAPES};
-pub use histories::{history, History, HISTORIES};
+pub use histories::{history, history_on, History, HISTORIES};
 pub use indexes::{index, navigation_case, totals, NavigationCase};
 pub use listings::listing;
 pub use random::Random;

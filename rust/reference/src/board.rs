@@ -1,7 +1,7 @@
 //! The board record, its soundness and the edits on it.
 
-use crate::machine::Call;
-use crate::{MAX_KEPT, MAX_ROWS};
+use crate::machine::{Call, Machine};
+use crate::{MAX_ENTRIES, MAX_KEPT, MAX_ROWS, MAX_UNDONE};
 
 /// A row of a board. Parent 0 is none; minutes are negative for a deduction.
 #[repr(C)]
@@ -19,30 +19,33 @@ impl Row {
     }
 }
 
-/// Kind of an entry: an add, undone by dropping the last row.
-pub const ADDED: u32 = 0;
-/// Kind of an entry: a withdrawal, undone by putting `row` back in at place `at`.
-pub const WITHDRAWN: u32 = 1;
-/// Kind of an entry: a remark, undone by setting place `at` to `row`.
-pub const REMARKED: u32 = 2;
+/// Kind of an entry: takes out the row at place `at`. Its own row is not read.
+pub const TAKE_OUT: u32 = 0;
+/// Kind of an entry: puts `row` in at place `at`; later rows move down by one.
+pub const PUT_IN: u32 = 1;
+/// Kind of an entry: makes place `at` hold `row`.
+pub const SET: u32 = 2;
 
-/// A journal entry. `at` counts from 0; an entry of another kind can't be undone.
+/// A journal entry, which is an operation on the rows. `at` counts from 0; an entry of another kind
+/// can't be carried out.
 #[repr(C)]
 #[derive(Clone, Copy, Debug, PartialEq, Eq, Default)]
 pub struct Entry {
     pub kind: u32,
-    pub at: usize,
+    pub at: u32,
     pub row: Row,
 }
 
-/// The board record. The journal is oldest first.
+/// The board record. The journal has the kept entries, oldest first, and right behind them the
+/// undone ones, newest first.
 #[repr(C)]
 #[derive(Clone, Debug, PartialEq, Eq)]
 pub struct Board {
     pub count: usize,
     pub rows: [Row; MAX_ROWS],
     pub kept: usize,
-    pub journal: [Entry; MAX_KEPT],
+    pub undone: usize,
+    pub journal: [Entry; MAX_ENTRIES],
 }
 
 /// What an edit gives: its refusal (0 for none) and the board.
@@ -52,40 +55,60 @@ pub struct Edited {
     pub board: Board,
 }
 
-/// The row list after undoing `entry` on `rows`, or none if it can't be undone.
-pub fn undone(rows: &[Row], entry: &Entry) -> Option<Vec<Row>> {
+/// The row list after `entry` is carried out on `rows`, or none if it can't be: it names a row which
+/// isn't there, or gives over 1,024 rows or one with numeral 0.
+pub fn carried_out(rows: &[Row], entry: &Entry) -> Option<Vec<Row>> {
     let mut list = rows.to_vec();
+    let at = entry.at as usize;
     match entry.kind {
-        ADDED => {
-            if list.is_empty() {
+        TAKE_OUT => {
+            if at >= list.len() {
                 return None;
             }
-            list.pop();
+            list.remove(at);
         }
-        WITHDRAWN => {
-            if entry.at > list.len() {
+        PUT_IN => {
+            if at > list.len() {
                 return None;
             }
-            list.insert(entry.at, entry.row);
+            list.insert(at, entry.row);
         }
-        REMARKED => {
-            if entry.at >= list.len() {
+        SET => {
+            if at >= list.len() {
                 return None;
             }
-            list[entry.at] = entry.row;
+            list[at] = entry.row;
         }
         _ => return None,
+    }
+    if list.len() > MAX_ROWS {
+        return None;
+    }
+    if list.iter().any(|row| row.numeral == 0) {
+        return None;
     }
     Some(list)
 }
 
+/// The entry that leads back to `rows` once `entry`, which can be carried out on them, was.
+pub fn inverse(rows: &[Row], entry: &Entry) -> Entry {
+    let at = entry.at;
+    match entry.kind {
+        TAKE_OUT => Entry { kind: PUT_IN, at, row: rows[at as usize] },
+        PUT_IN => Entry { kind: TAKE_OUT, at, row: entry.row },
+        SET => Entry { kind: SET, at, row: rows[at as usize] },
+        _ => unreachable!("an entry of another kind can't be carried out"),
+    }
+}
+
 impl Board {
-    /// No rows and no kept steps.
+    /// No rows, no kept and no undone steps.
     pub const EMPTY: Board = Board {
         count: 0,
         rows: [Row::new(0, 0, 0, 0); MAX_ROWS],
         kept: 0,
-        journal: [Entry { kind: 0, at: 0, row: Row::new(0, 0, 0, 0) }; MAX_KEPT],
+        undone: 0,
+        journal: [Entry { kind: 0, at: 0, row: Row::new(0, 0, 0, 0) }; MAX_ENTRIES],
     };
 
     /// The rows held; of a count above 1,024 all places.
@@ -93,9 +116,15 @@ impl Board {
         &self.rows[..self.count.min(MAX_ROWS)]
     }
 
-    /// The entries kept, oldest first; of a kept number above 256 all places.
+    /// The kept entries, oldest first; of a kept number above 256 the first 256.
     pub fn entries(&self) -> &[Entry] {
         &self.journal[..self.kept.min(MAX_KEPT)]
+    }
+
+    /// The undone entries, newest first; of an undone number above 256 the first 256.
+    pub fn undone_entries(&self) -> &[Entry] {
+        let first = self.kept.min(MAX_KEPT);
+        &self.journal[first..first + self.undone.min(MAX_UNDONE)]
     }
 
     /// Whether the board is sound.
@@ -106,18 +135,41 @@ impl Board {
         if self.kept > MAX_KEPT {
             return false;
         }
+        if self.undone > MAX_UNDONE {
+            return false;
+        }
         for row in self.held() {
             if row.numeral == 0 {
                 return false;
             }
         }
-        if self.kept == 0 {
-            return true;
+        // The newest kept entry can be undone.
+        if self.kept > 0 && carried_out(self.held(), &self.journal[self.kept - 1]).is_none() {
+            return false;
         }
-        match undone(self.held(), &self.journal[self.kept - 1]) {
-            None => false,
-            Some(list) => list.len() <= MAX_ROWS && list.iter().all(|row| row.numeral >= 1),
+        // The newest undone entry can be redone within the same limits.
+        if self.undone > 0 && carried_out(self.held(), &self.journal[self.kept]).is_none() {
+            return false;
         }
+        true
+    }
+
+    /// R, and the lists K and F that the journal gives, or none if an entry can't be carried out on
+    /// the rows that the ones before it lead to.
+    pub fn machine(&self) -> Option<Machine> {
+        let mut machine = Machine::new();
+        machine.rows = self.held().to_vec();
+        let mut rows = self.held().to_vec();
+        for entry in self.entries().iter().rev() {
+            rows = carried_out(&rows, entry)?;
+            machine.kept.push(rows.clone());
+        }
+        let mut rows = self.held().to_vec();
+        for entry in self.undone_entries() {
+            rows = carried_out(&rows, entry)?;
+            machine.undone.push(rows.clone());
+        }
+        Some(machine)
     }
 
     /// Makes one call on the board.
@@ -127,6 +179,7 @@ impl Board {
             Call::Withdraw(k) => self.withdraw(k),
             Call::Remark(k, minutes) => self.remark(k, minutes),
             Call::Undo => self.undo(),
+            Call::Redo => self.redo(),
         }
     }
 
@@ -143,7 +196,7 @@ impl Board {
         }
         let mut list = self.held().to_vec();
         list.push(row);
-        let entry = Entry { kind: ADDED, at: self.count, row };
+        let entry = Entry { kind: TAKE_OUT, at: self.count as u32, row };
         self.noted(entry).accepted(&list)
     }
 
@@ -157,7 +210,7 @@ impl Board {
         }
         let mut list = self.held().to_vec();
         let row = list.remove(k - 1);
-        let entry = Entry { kind: WITHDRAWN, at: k - 1, row };
+        let entry = Entry { kind: PUT_IN, at: (k - 1) as u32, row };
         self.noted(entry).accepted(&list)
     }
 
@@ -172,11 +225,12 @@ impl Board {
         let mut list = self.held().to_vec();
         let row = list[k - 1];
         list[k - 1].minutes = minutes;
-        let entry = Entry { kind: REMARKED, at: k - 1, row };
+        let entry = Entry { kind: SET, at: (k - 1) as u32, row };
         self.noted(entry).accepted(&list)
     }
 
-    /// Undoes the newest kept step.
+    /// Undoes the newest kept step. Its inverse takes its place as the newest undone one; of 257
+    /// undone steps the last is no longer counted.
     pub fn undo(mut self) -> Edited {
         if !self.sound() {
             return self.refused(1);
@@ -185,39 +239,72 @@ impl Board {
             return self.refused(5);
         }
         let entry = self.journal[self.kept - 1];
-        let list = undone(self.held(), &entry).expect("a sound board's newest entry can be undone");
+        let list =
+            carried_out(self.held(), &entry).expect("the newest kept entry of a sound board");
+        self.journal[self.kept - 1] = inverse(self.held(), &entry);
         self.kept -= 1;
+        if self.undone < MAX_UNDONE {
+            self.undone += 1;
+        }
         self.accepted(&list)
     }
 
-    /// Whether two boards hold the same rows and the same kept steps.
-    /// Words beyond the count and the kept number are not compared, and of an
-    /// add's entry only the kind is, as its undoing uses nothing else.
+    /// Redoes the newest undone step. Its inverse takes its place as the newest kept one; of 257
+    /// kept steps the oldest is dropped by shifting, and the undone ones move along.
+    pub fn redo(mut self) -> Edited {
+        if !self.sound() {
+            return self.refused(1);
+        }
+        if self.undone == 0 {
+            return self.refused(17);
+        }
+        let entry = self.journal[self.kept];
+        let list =
+            carried_out(self.held(), &entry).expect("the newest undone entry of a sound board");
+        self.journal[self.kept] = inverse(self.held(), &entry);
+        if self.kept == MAX_KEPT {
+            self.shift(self.kept + self.undone);
+        } else {
+            self.kept += 1;
+        }
+        self.undone -= 1;
+        self.accepted(&list)
+    }
+
+    /// Whether two boards hold the same rows and the same kept and undone steps.
+    /// Words beyond the count and the two numbers are not compared, nor is the
+    /// own row of an entry that takes a row out, as nothing reads it.
     pub fn same(&self, other: &Board) -> bool {
         self.count == other.count
             && self.kept == other.kept
+            && self.undone == other.undone
             && self.held() == other.held()
-            && self.entries().iter().zip(other.entries()).all(|(a, b)| {
-                a.kind == b.kind && (a.kind == ADDED || (a.at == b.at && a.row == b.row))
-            })
+            && alike(self.entries(), other.entries())
+            && alike(self.undone_entries(), other.undone_entries())
     }
 
     fn refused(self, refusal: u32) -> Edited {
         Edited { refusal, board: self }
     }
 
-    /// Appends an entry; of 257 the oldest is dropped by shifting.
+    /// Puts an entry behind the kept ones; of 257 the oldest is dropped by shifting. Nothing stays
+    /// undone.
     fn noted(mut self, entry: Entry) -> Board {
-        let mut entries = self.entries().to_vec();
-        entries.push(entry);
-        if entries.len() > MAX_KEPT {
-            entries.remove(0);
+        if self.kept == MAX_KEPT {
+            self.shift(self.kept);
+            self.kept -= 1;
         }
-        for (place, entry) in entries.iter().enumerate() {
-            self.journal[place] = *entry;
-        }
-        self.kept = entries.len();
+        self.journal[self.kept] = entry;
+        self.kept += 1;
+        self.undone = 0;
         self
+    }
+
+    /// Moves the first `places` entries up by one; the first is lost, the last place keeps its words.
+    fn shift(&mut self, places: usize) {
+        for place in 0..places - 1 {
+            self.journal[place] = self.journal[place + 1];
+        }
     }
 
     /// Writes `list` to the front of the places; the words beyond stay.
@@ -228,4 +315,11 @@ impl Board {
         self.count = list.len();
         Edited { refusal: 0, board: self }
     }
+}
+
+/// Whether two lists of entries, equally many, do the same.
+fn alike(one: &[Entry], other: &[Entry]) -> bool {
+    one.iter()
+        .zip(other)
+        .all(|(a, b)| a.kind == b.kind && a.at == b.at && (a.kind == TAKE_OUT || a.row == b.row))
 }

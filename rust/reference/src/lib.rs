@@ -1,6 +1,7 @@
 //! Reference implementation of numeral trees, as plain as the paper's sentences.
 //!
-//! * [`machine`]: the plain machine, a row list R and a list K of earlier row lists.
+//! * [`machine`]: the plain machine, a row list R, a list K of earlier row lists and a list F of
+//!   undone ones.
 //! * [`board`]: the board record, its soundness and the edits on it.
 //! * [`forest`]: paths, nodes, their order and the build of the index image.
 //! * [`navigation`]: span, descendants, ancestors, siblings and sums on any slices.
@@ -30,8 +31,12 @@ pub use navigation::{
 
 /// Places for rows on a board.
 pub const MAX_ROWS: usize = 1_024;
-/// Places for journal entries on a board.
+/// Most kept steps on a board.
 pub const MAX_KEPT: usize = 256;
+/// Most undone steps on a board.
+pub const MAX_UNDONE: usize = 256;
+/// Places for journal entries on a board.
+pub const MAX_ENTRIES: usize = MAX_KEPT + MAX_UNDONE;
 /// Most nodes an index may hold.
 pub const MAX_NODES: usize = 65_535;
 /// Words in the table of contents.

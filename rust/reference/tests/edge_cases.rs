@@ -1,5 +1,6 @@
 //! Edges of the sentences, worked out by hand.
 
+use reference::board::{carried_out, inverse, PUT_IN, SET, TAKE_OUT};
 use reference::*;
 
 fn row(parent: u32, numeral: u32, order: u32) -> Row {
@@ -339,81 +340,202 @@ fn order_extremes_and_ties() {
 
 // Soundness.
 
-fn board_of(rows: &[Row], entries: &[Entry]) -> Board {
+/// A board of the rows, the kept entries, oldest first, and the undone ones, newest first.
+fn board_of(rows: &[Row], kept: &[Entry], undone: &[Entry]) -> Board {
     let mut board = Board::EMPTY;
     board.count = rows.len();
     board.rows[..rows.len()].copy_from_slice(rows);
-    board.kept = entries.len();
-    board.journal[..entries.len()].copy_from_slice(entries);
+    board.kept = kept.len();
+    board.undone = undone.len();
+    let entries = [kept, undone].concat();
+    board.journal[..entries.len()].copy_from_slice(&entries);
     board
 }
 
-fn entry(kind: u32, at: usize, numeral: u32) -> Entry {
+fn entry(kind: u32, at: u32, numeral: u32) -> Entry {
     Entry { kind, at, row: row(0, numeral, 0) }
+}
+
+/// One call of each kind, refused by a later sentence where one can be.
+fn each_call() -> [Call; 5] {
+    [Call::Add(row(0, 0, 0)), Call::Withdraw(0), Call::Remark(0, 1), Call::Undo, Call::Redo]
+}
+
+/// All five calls refuse the board as unsound and give every word back.
+fn refused_as_unsound(board: &Board) {
+    assert!(!board.sound());
+    for call in each_call() {
+        let edited = board.clone().call(call);
+        assert_eq!(edited.refusal, 1);
+        assert_eq!(edited.board, *board);
+    }
+}
+
+/// Makes a call that is accepted.
+fn done(board: Board, call: Call) -> Board {
+    let edited = board.call(call);
+    assert_eq!(edited.refusal, 0, "{call:?}");
+    edited.board
+}
+
+#[test]
+fn words_of_the_record() {
+    assert_eq!(std::mem::size_of::<Row>(), 16);
+    assert_eq!(std::mem::size_of::<Entry>(), 24);
+    assert_eq!(std::mem::size_of::<Board>(), 28_696);
+    assert_eq!((TAKE_OUT, PUT_IN, SET), (0, 1, 2));
+    assert_eq!((MAX_KEPT, MAX_UNDONE, MAX_ENTRIES), (256, 256, 512));
+}
+
+/// The entries that can and that can't be carried out, each with the rows it is tried on.
+fn good_and_bad_entries() -> Vec<(Vec<Row>, Entry, bool)> {
+    let two = || vec![row(0, 1, 1), row(0, 2, 2)];
+    let full = || vec![row(0, 1, 1); 1_024];
+    vec![
+        // Take out: place below the count; the entry's own row is not read.
+        (vec![], entry(TAKE_OUT, 0, 1), false),
+        (two(), entry(TAKE_OUT, 0, 1), true),
+        (two(), entry(TAKE_OUT, 1, 0), true),
+        (two(), entry(TAKE_OUT, 2, 1), false),
+        (two(), entry(TAKE_OUT, u32::MAX, 1), false),
+        (full(), entry(TAKE_OUT, 0, 0), true),
+        (full(), entry(TAKE_OUT, 1_023, 0), true),
+        (full(), entry(TAKE_OUT, 1_024, 1), false),
+        // Put in: place up to the count, room for one more, numeral 1 or more.
+        (vec![], entry(PUT_IN, 0, 1), true),
+        (vec![], entry(PUT_IN, 1, 1), false),
+        (two(), entry(PUT_IN, 2, 1), true),
+        (two(), entry(PUT_IN, 3, 1), false),
+        (two(), entry(PUT_IN, u32::MAX, 1), false),
+        (two(), entry(PUT_IN, 0, 0), false),
+        (full(), entry(PUT_IN, 0, 1), false),
+        (full(), entry(PUT_IN, 1_024, 1), false),
+        (full()[1..].to_vec(), entry(PUT_IN, 1_023, 1), true),
+        (full()[1..].to_vec(), entry(PUT_IN, 1_024, 1), false),
+        // Set: place below the count, numeral 1 or more.
+        (two(), entry(SET, 1, 1), true),
+        (two(), entry(SET, 2, 1), false),
+        (two(), entry(SET, u32::MAX, 1), false),
+        (vec![], entry(SET, 0, 1), false),
+        (two(), entry(SET, 0, 0), false),
+        (full(), entry(SET, 1_023, 7), true),
+        (full(), entry(SET, 1_024, 7), false),
+        // Other kinds can't be carried out.
+        (two(), entry(3, 0, 1), false),
+        (two(), entry(u32::MAX, 0, 1), false),
+    ]
 }
 
 #[test]
 fn soundness() {
     let two = [row(0, 1, 1), row(0, 2, 2)];
-    let full = vec![row(0, 1, 1); 1_024];
-    let sound = |rows: &[Row], newest: Entry| board_of(rows, &[newest]).sound();
     assert!(Board::EMPTY.sound());
-    assert!(!board_of(&[row(0, 0, 1)], &[]).sound());
-    // An add: a row must be there; place and row of the entry are not used.
-    assert!(!sound(&[], entry(0, 0, 1)));
-    assert!(sound(&two, entry(0, usize::MAX, 0)));
-    assert!(sound(&full, entry(0, 0, 0)));
-    // A withdrawal: place up to the count, room for one more, numeral 1 or more.
-    assert!(sound(&[], entry(1, 0, 1)));
-    assert!(!sound(&[], entry(1, 1, 1)));
-    assert!(sound(&two, entry(1, 2, 1)));
-    assert!(!sound(&two, entry(1, 3, 1)));
-    assert!(!sound(&two, entry(1, usize::MAX, 1)));
-    assert!(!sound(&two, entry(1, 0, 0)));
-    assert!(!sound(&full, entry(1, 0, 1)));
-    assert!(sound(&full[..1_023], entry(1, 1_023, 1)));
-    // A remark: place below the count, numeral 1 or more.
-    assert!(sound(&two, entry(2, 1, 1)));
-    assert!(!sound(&two, entry(2, 2, 1)));
-    assert!(!sound(&[], entry(2, 0, 1)));
-    assert!(!sound(&two, entry(2, 0, 0)));
-    assert!(sound(&full, entry(2, 1_023, 7)));
-    // Other kinds can't be undone.
-    assert!(!sound(&two, entry(3, 0, 1)));
-    assert!(!sound(&two, entry(u32::MAX, 0, 1)));
-    // Only the newest entry is looked at.
-    assert!(board_of(&two, &[entry(9, 0, 0), entry(0, 0, 0)]).sound());
-    let mut board = board_of(&two, &[entry(9, 0, 0)]);
+    refused_as_unsound(&board_of(&[row(0, 0, 1)], &[], &[]));
+    for (rows, newest, good) in good_and_bad_entries() {
+        assert_eq!(carried_out(&rows, &newest).is_some(), good, "{newest:?}");
+        let fine = if rows.is_empty() { entry(PUT_IN, 0, 1) } else { entry(TAKE_OUT, 0, 0) };
+        let bad = entry(9, 0, 0);
+        // As the newest kept entry, as the newest undone one, and as both; the entries farther off
+        // are not looked at.
+        for board in [
+            board_of(&rows, &[newest], &[]),
+            board_of(&rows, &[bad, newest], &[fine, bad]),
+            board_of(&rows, &[], &[newest]),
+            board_of(&rows, &[bad, fine], &[newest, bad]),
+            board_of(&rows, &[newest], &[newest]),
+            board_of(&rows, &[newest; 256], &[fine; 256]),
+            board_of(&rows, &[fine; 256], &[newest; 256]),
+        ] {
+            if good {
+                assert!(board.sound(), "{newest:?}");
+            } else {
+                refused_as_unsound(&board);
+            }
+        }
+    }
+    // Entries that are neither kept nor undone are not looked at, nor are places beyond the count.
+    let mut board = board_of(&two, &[entry(9, 0, 0)], &[entry(9, 0, 0)]);
     board.kept = 0;
+    board.undone = 0;
     board.rows[2].numeral = 0;
     assert!(board.sound());
-    // Numbers beyond the places.
-    for (count, kept) in [(1_025, 0), (usize::MAX, 0), (0, 257), (0, usize::MAX)] {
+    let mut board = board_of(&two, &[entry(SET, 0, 1)], &[entry(9, 0, 0)]);
+    board.undone = 0;
+    assert!(board.sound());
+}
+
+#[test]
+fn numbers_beyond_the_places() {
+    let wide = usize::MAX;
+    for (count, kept, undone) in [
+        (1_025, 0, 0),
+        (wide, 0, 0),
+        (1 << 32, 0, 0),
+        (0, 257, 0),
+        (0, wide, 0),
+        (0, 1 << 32, 0),
+        (0, 0, 257),
+        (0, 256, 257),
+        (0, 257, 256),
+        (0, 0, 512),
+        (0, 0, wide),
+        (0, 1, wide),
+        (0, wide, 1),
+        (0, wide, wide),
+        (0, 0, 1 << 32),
+        (0, 1, (1 << 32) - 1),
+    ] {
         let mut board = Board::EMPTY;
         board.count = count;
         board.kept = kept;
+        board.undone = undone;
         board.rows = [row(0, 1, 1); 1_024];
-        board.journal = [entry(1, 0, 1); 256];
-        assert!(!board.sound());
-        for call in [Call::Add(row(0, 0, 0)), Call::Withdraw(0), Call::Remark(0, 1), Call::Undo] {
-            let edited = board.clone().call(call);
-            assert_eq!(edited.refusal, 1);
-            assert_eq!(edited.board, board);
-        }
+        board.journal = [entry(PUT_IN, 0, 1); 512];
+        refused_as_unsound(&board);
     }
 }
 
 #[test]
-fn undo_of_a_foreign_board_may_leave_it_unsound() {
-    let board = board_of(&[row(0, 1, 1)], &[entry(7, 0, 0), entry(0, 0, 0)]);
+fn inverses_lead_back() {
+    let rows = [row(0, 1, 1), row(0, 2, 2), row(0, 3, 3)];
+    for (entry, expected) in [
+        // The row that was taken out, not the entry's own.
+        (entry(TAKE_OUT, 1, 8), Entry { kind: PUT_IN, at: 1, row: rows[1] }),
+        (entry(PUT_IN, 1, 8), entry(TAKE_OUT, 1, 8)),
+        (entry(PUT_IN, 3, 8), entry(TAKE_OUT, 3, 8)),
+        (entry(SET, 2, 8), Entry { kind: SET, at: 2, row: rows[2] }),
+    ] {
+        let back = inverse(&rows, &entry);
+        assert_eq!(back, expected);
+        let list = carried_out(&rows, &entry).unwrap();
+        assert_eq!(carried_out(&list, &back).unwrap(), rows);
+    }
+}
+
+#[test]
+fn steps_of_a_foreign_board_may_leave_it_unsound() {
+    let bad = entry(7, 0, 0);
+    let board = board_of(&[row(0, 1, 1)], &[bad, entry(TAKE_OUT, 0, 0)], &[]);
     let edited = board.undo();
-    assert_eq!((edited.refusal, edited.board.count, edited.board.kept), (0, 0, 1));
-    assert_eq!(edited.board.undo().refusal, 1);
+    assert_eq!((edited.refusal, edited.board.count), (0, 0));
+    assert_eq!((edited.board.kept, edited.board.undone), (1, 1));
+    refused_as_unsound(&edited.board);
+    let board = board_of(&[row(0, 1, 1)], &[], &[entry(TAKE_OUT, 0, 0), bad]);
+    let edited = board.redo();
+    assert_eq!((edited.refusal, edited.board.count), (0, 0));
+    assert_eq!((edited.board.kept, edited.board.undone), (1, 1));
+    refused_as_unsound(&edited.board);
+    // A place that is there on the rows held, and not on those it leads to.
+    let board = board_of(&[row(0, 1, 1)], &[], &[entry(TAKE_OUT, 0, 0), entry(SET, 0, 1)]);
+    refused_as_unsound(&board.redo().board);
+    // Each of the two entries is judged on the rows held.
+    let board = board_of(&[row(0, 1, 1)], &[entry(PUT_IN, 1, 2)], &[entry(SET, 1, 3)]);
+    refused_as_unsound(&board);
 }
 
 #[test]
 fn edits_refuse_in_order() {
-    let full = board_of(&vec![row(0, 1, 1); 1_024], &[]);
+    let full = board_of(&vec![row(0, 1, 1); 1_024], &[], &[]);
     assert_eq!(full.clone().add(row(0, 0, 0)).refusal, 2);
     assert_eq!(full.clone().add(row(0, 1, 0)).refusal, 3);
     assert_eq!(full.clone().withdraw(0).refusal, 4);
@@ -421,19 +543,430 @@ fn edits_refuse_in_order() {
     assert_eq!(full.clone().remark(0, 0).refusal, 4);
     assert_eq!(full.clone().remark(usize::MAX, 0).refusal, 4);
     assert_eq!(full.clone().undo().refusal, 5);
+    assert_eq!(full.clone().redo().refusal, 17);
     assert_eq!(full.clone().withdraw(1_024).refusal, 0);
     assert_eq!(full.clone().remark(1_024, i32::MIN).board.rows[1_023].minutes, i32::MIN);
 }
 
 #[test]
 fn the_oldest_of_257_entries_is_dropped() {
-    let mut entries: Vec<Entry> = (0..256).map(|k| entry(2, 0, k + 1)).collect();
-    let board = board_of(&[row(0, 1, 1)], &entries);
+    let mut entries: Vec<Entry> = (0..256).map(|k| entry(SET, 0, k + 1)).collect();
+    let board = board_of(&[row(0, 1, 1)], &entries, &[]);
     let edited = board.remark(1, 9);
     assert_eq!(edited.refusal, 0);
     entries.remove(0);
-    entries.push(Entry { kind: 2, at: 0, row: row(0, 1, 1) });
+    entries.push(Entry { kind: SET, at: 0, row: row(0, 1, 1) });
     assert!(edited.board.entries() == entries);
+}
+
+// Undo and redo.
+
+#[test]
+fn words_that_edits_write() {
+    let (one, two, three) = (row(0, 1, 1), row(1, 2, 2), row(1, 3, 3));
+    let mut board = board_of(&[], &[], &[]);
+    for added in [one, two, three] {
+        board = done(board, Call::Add(added));
+    }
+    let adds = [
+        Entry { kind: TAKE_OUT, at: 0, row: one },
+        Entry { kind: TAKE_OUT, at: 1, row: two },
+        Entry { kind: TAKE_OUT, at: 2, row: three },
+    ];
+    assert_eq!(board, board_of(&[one, two, three], &adds, &[]));
+
+    // A withdrawal moves later rows up and leaves the last place as it was.
+    let mut expected = board_of(&[one, three, three], &adds, &[]);
+    expected.count = 2;
+    expected.kept = 4;
+    expected.journal[3] = Entry { kind: PUT_IN, at: 1, row: two };
+    let withdrawn = done(board.clone(), Call::Withdraw(2));
+    assert_eq!(withdrawn, expected);
+
+    // Its undo puts the row back in the middle, and the inverse stands in the entry's place.
+    let mut expected = board_of(&[one, two, three], &adds, &[]);
+    expected.undone = 1;
+    expected.journal[3] = Entry { kind: TAKE_OUT, at: 1, row: two };
+    let back = done(withdrawn.clone(), Call::Undo);
+    assert_eq!(back, expected);
+    // The redone withdrawal is the withdrawal, word by word.
+    assert_eq!(done(back.clone(), Call::Redo), withdrawn);
+
+    // An undo further: an add is undone, and the words beyond stay.
+    let mut expected = board_of(&[one, two, three], &adds[..2], &[]);
+    expected.count = 2;
+    expected.undone = 2;
+    expected.journal[2] = Entry { kind: PUT_IN, at: 2, row: three };
+    expected.journal[3] = Entry { kind: TAKE_OUT, at: 1, row: two };
+    let further = done(back.clone(), Call::Undo);
+    assert_eq!(further, expected);
+    assert_eq!(done(further.clone(), Call::Redo), back);
+
+    // A remark there takes the newest undone entry's place; the other's words stay, uncounted.
+    let remarked = Row { minutes: -5, ..one };
+    expected.rows[0] = remarked;
+    expected.kept = 3;
+    expected.undone = 0;
+    expected.journal[2] = Entry { kind: SET, at: 0, row: one };
+    let edited = done(further, Call::Remark(1, -5));
+    assert_eq!(edited, expected);
+    // Its undo sets the old row, and its redo the new one.
+    expected.rows[0] = one;
+    expected.kept = 2;
+    expected.undone = 1;
+    expected.journal[2] = Entry { kind: SET, at: 0, row: remarked };
+    let undone = done(edited.clone(), Call::Undo);
+    assert_eq!(undone, expected);
+    assert_eq!(done(undone, Call::Redo), edited);
+}
+
+#[test]
+fn redo_after_undo_gives_the_same_board() {
+    let mut board = Board::EMPTY;
+    for (place, call) in [
+        Call::Add(row(0, 1, 1)),
+        Call::Add(row(0, 2, 1)),
+        Call::Remark(1, 7),
+        Call::Add(row(0, 3, 1)),
+        Call::Withdraw(2),
+        Call::Withdraw(1),
+        Call::Remark(1, i32::MIN),
+        Call::Withdraw(1),
+        Call::Add(row(0, 4, 1)),
+    ]
+    .into_iter()
+    .enumerate()
+    {
+        board = done(board, call);
+        assert_eq!((board.kept, board.undone), (place + 1, 0));
+        // All the way down, and up again over the same boards.
+        let mut passed = Vec::new();
+        let mut down = board.clone();
+        while down.kept > 0 {
+            passed.push(down.clone());
+            down = done(down, Call::Undo);
+        }
+        assert_eq!((down.count, down.undone), (0, place + 1));
+        let edited = down.undo();
+        assert_eq!(edited.refusal, 5);
+        let mut up = edited.board;
+        while let Some(earlier) = passed.pop() {
+            up = done(up, Call::Redo);
+            assert!(up.same(&earlier));
+        }
+        assert_eq!(up, board);
+    }
+}
+
+#[test]
+fn redo_is_refused_with_nothing_undone() {
+    let mut machine = Machine::new();
+    let mut board = Board::EMPTY;
+    let (add, undo, redo) = (Call::Add(row(0, 1, 1)), Call::Undo, Call::Redo);
+    for (call, refusal, kept, undone) in [
+        // At first.
+        (redo, 17, 0, 0),
+        (undo, 5, 0, 0),
+        (add, 0, 1, 0),
+        // After an edit.
+        (redo, 17, 1, 0),
+        (undo, 0, 0, 1),
+        (undo, 5, 0, 1),
+        (redo, 0, 1, 0),
+        (redo, 17, 1, 0),
+        (add, 0, 2, 0),
+        (undo, 0, 1, 1),
+        (undo, 0, 0, 2),
+        (redo, 0, 1, 1),
+        // Refused edits keep what is undone.
+        (Call::Add(row(0, 0, 1)), 2, 1, 1),
+        (Call::Withdraw(0), 4, 1, 1),
+        (Call::Withdraw(2), 4, 1, 1),
+        (Call::Remark(0, 3), 4, 1, 1),
+        (Call::Remark(2, 3), 4, 1, 1),
+        (redo, 0, 2, 0),
+        (undo, 0, 1, 1),
+        // Each accepted edit empties it, also one that changes no word.
+        (Call::Remark(1, 1), 0, 2, 0),
+        (redo, 17, 2, 0),
+        (undo, 0, 1, 1),
+        (Call::Withdraw(1), 0, 2, 0),
+        (redo, 17, 2, 0),
+        (undo, 0, 1, 1),
+        (add, 0, 2, 0),
+        (redo, 17, 2, 0),
+    ] {
+        let before = board.clone();
+        assert_eq!(machine.call(call), refusal, "{call:?}");
+        let edited = board.call(call);
+        assert_eq!(edited.refusal, refusal, "{call:?}");
+        board = edited.board;
+        assert_eq!((board.kept, board.undone), (kept, undone), "{call:?}");
+        assert_eq!((machine.kept.len(), machine.undone.len()), (kept, undone), "{call:?}");
+        assert_eq!(board.machine(), Some(machine.clone()), "{call:?}");
+        assert!(refusal == 0 || board == before);
+    }
+}
+
+#[test]
+fn a_refused_add_to_1_024_rows_keeps_what_is_undone() {
+    let full = vec![row(0, 1, 1); 1_024];
+    let board = board_of(&full, &[], &[entry(TAKE_OUT, 3, 0), entry(SET, 0, 4)]);
+    let edited = board.clone().add(row(0, 1, 1));
+    assert_eq!(edited.refusal, 3);
+    assert_eq!(edited.board, board);
+    let redone = done(board, Call::Redo);
+    assert_eq!((redone.count, redone.kept, redone.undone), (1_023, 1, 1));
+    // The undone step gives all places again.
+    let undone = done(redone, Call::Undo);
+    assert_eq!((undone.count, undone.kept, undone.undone), (1_024, 0, 2));
+}
+
+#[test]
+fn a_withdrawal_redone_in_the_middle() {
+    let rows: Vec<Row> = (1..=5).map(|k| row(0, k, k)).collect();
+    let mut board = Board::EMPTY;
+    for added in &rows {
+        board = done(board, Call::Add(*added));
+    }
+    let withdrawn = done(board, Call::Withdraw(3));
+    let held = [rows[0], rows[1], rows[3], rows[4]];
+    assert_eq!(withdrawn.held(), held);
+    let undone = done(withdrawn.clone(), Call::Undo);
+    assert_eq!(undone.held(), rows);
+    let redone = done(undone, Call::Redo);
+    assert_eq!(redone.held(), held);
+    assert_eq!(redone, withdrawn);
+    let last = done(redone, Call::Undo);
+    assert_eq!(last.held(), rows);
+}
+
+// 256 kept and 256 undone steps.
+
+/// A row of the given minutes; the steps below set one such row after the other.
+fn timed(minutes: i32) -> Row {
+    Row::new(0, 1, 1, minutes)
+}
+
+fn set(minutes: i32) -> Entry {
+    Entry { kind: SET, at: 0, row: timed(minutes) }
+}
+
+/// Minutes 0 on the only row, with minutes −1 to −256 kept and 1 to 256 undone, and −999 in the
+/// words that count for neither.
+fn stretched(kept: i32, undone: i32) -> Board {
+    let earlier: Vec<Entry> = (1..=kept).rev().map(|k| set(-k)).collect();
+    let later: Vec<Entry> = (1..=undone).map(set).collect();
+    let mut board = board_of(&[timed(0)], &earlier, &later);
+    board.rows[1..].fill(timed(-999));
+    board.journal[(kept + undone) as usize..].fill(set(-999));
+    board
+}
+
+/// The minutes in the rows of the machine's K, R and F.
+fn minutes(machine: &Machine) -> (Vec<i32>, i32, Vec<i32>) {
+    let all = |lists: &[Vec<Row>]| lists.iter().map(|rows| rows[0].minutes).collect();
+    (all(&machine.kept), machine.rows[0].minutes, all(&machine.undone))
+}
+
+#[test]
+fn undo_with_256_undone_steps() {
+    let board = stretched(256, 256);
+    let mut machine = board.machine().unwrap();
+    // The inverse stands in the entry's place, and no other entry moves; minutes 256 are no longer
+    // counted, and their words stay in the last place.
+    let mut expected = board.clone();
+    expected.rows[0] = timed(-1);
+    expected.kept = 255;
+    expected.journal[255] = set(0);
+    let undone = done(board, Call::Undo);
+    assert_eq!(undone, expected);
+    assert_eq!(undone.journal[511], set(256));
+    assert_eq!(machine.undo(), 0);
+    assert_eq!(minutes(&machine), ((-256..=-2).rev().collect(), -1, (0..=255).collect()));
+    assert_eq!(undone.machine(), Some(machine.clone()));
+
+    // To the bottom, each undo losing the last undone step; then up by 256 and no further.
+    let mut board = undone;
+    for k in 2..=256 {
+        board = done(board, Call::Undo);
+        assert_eq!(machine.undo(), 0);
+        assert_eq!(
+            (board.held(), board.kept, board.undone),
+            (&[timed(-k)][..], 256 - k as usize, 256)
+        );
+    }
+    assert_eq!(board.clone().undo().refusal, 5);
+    assert_eq!(machine.undo(), 5);
+    assert_eq!(minutes(&machine), (vec![], -256, (-255..=0).collect()));
+    assert_eq!(board.machine(), Some(machine.clone()));
+    for k in 1..=256 {
+        board = done(board, Call::Redo);
+        assert_eq!(machine.redo(), 0);
+        assert_eq!((board.kept, board.undone), (k, 256 - k));
+        assert_eq!(board.held(), [timed(k as i32 - 256)]);
+    }
+    assert_eq!(board.clone().redo().refusal, 17);
+    assert_eq!(machine.redo(), 17);
+    assert_eq!(board.machine(), Some(machine));
+}
+
+#[test]
+fn redo_with_256_kept_steps() {
+    let board = stretched(256, 256);
+    let mut machine = board.machine().unwrap();
+    // All 512 places move up, the oldest kept entry is lost and the last place keeps its words.
+    let mut expected = board.clone();
+    expected.rows[0] = timed(1);
+    expected.undone = 255;
+    expected.journal.copy_within(1.., 0);
+    expected.journal[255] = set(0);
+    let redone = done(board, Call::Redo);
+    assert_eq!(redone, expected);
+    assert_eq!((redone.journal[0], redone.journal[254]), (set(-255), set(-1)));
+    assert_eq!(
+        (redone.journal[256], redone.journal[510], redone.journal[511]),
+        (set(2), set(256), set(256))
+    );
+    assert_eq!(machine.redo(), 0);
+    assert_eq!(minutes(&machine), ((-255..=0).rev().collect(), 1, (2..=256).collect()));
+    assert_eq!(redone.machine(), Some(machine.clone()));
+
+    // To the top, each redo losing the oldest kept step; then down by 256 and no further.
+    let mut board = redone;
+    for k in 2..=256 {
+        board = done(board, Call::Redo);
+        assert_eq!(machine.redo(), 0);
+        assert_eq!(
+            (board.held(), board.kept, board.undone),
+            (&[timed(k)][..], 256, 256 - k as usize)
+        );
+    }
+    assert_eq!(board.clone().redo().refusal, 17);
+    assert_eq!(machine.redo(), 17);
+    assert_eq!(minutes(&machine), ((0..=255).rev().collect(), 256, vec![]));
+    assert_eq!(board.machine(), Some(machine.clone()));
+    for k in 1..=256 {
+        board = done(board, Call::Undo);
+        assert_eq!(machine.undo(), 0);
+        assert_eq!((board.kept, board.undone), (256 - k, k));
+        assert_eq!(board.held(), [timed(256 - k as i32)]);
+    }
+    assert_eq!(board.clone().undo().refusal, 5);
+    assert_eq!(machine.undo(), 5);
+    assert_eq!(board.machine(), Some(machine));
+}
+
+#[test]
+fn redo_of_the_only_undone_step_with_256_kept() {
+    // Places 0 to 256 move up; the inverse, put at place 256 first, stands at 255 and stays at 256.
+    let board = stretched(256, 1);
+    let mut expected = board.clone();
+    expected.rows[0] = timed(1);
+    expected.undone = 0;
+    expected.journal.copy_within(1..257, 0);
+    expected.journal[255] = set(0);
+    expected.journal[256] = set(0);
+    let redone = done(board, Call::Redo);
+    assert_eq!(redone, expected);
+    assert_eq!(redone.journal[257], set(-999));
+    assert_eq!(redone.clone().redo().refusal, 17);
+    // With two, the last place of 258 keeps its words.
+    let board = stretched(256, 2);
+    let mut expected = board.clone();
+    expected.rows[0] = timed(1);
+    expected.undone = 1;
+    expected.journal.copy_within(1..258, 0);
+    expected.journal[255] = set(0);
+    assert_eq!((expected.journal[256], expected.journal[257]), (set(2), set(2)));
+    assert_eq!(done(board, Call::Redo), expected);
+}
+
+#[test]
+fn steps_just_below_the_limits() {
+    // 255 kept: a redo moves nothing. 255 undone: an undo counts one more.
+    let board = stretched(255, 256);
+    let mut expected = board.clone();
+    expected.rows[0] = timed(1);
+    expected.kept = 256;
+    expected.undone = 255;
+    expected.journal[255] = set(0);
+    assert_eq!(done(board, Call::Redo), expected);
+    let board = stretched(256, 255);
+    let mut expected = board.clone();
+    expected.rows[0] = timed(-1);
+    expected.kept = 255;
+    expected.undone = 256;
+    expected.journal[255] = set(0);
+    assert_eq!(done(board, Call::Undo), expected);
+}
+
+#[test]
+fn edits_with_256_kept_and_256_undone() {
+    let board = stretched(256, 256);
+    let added = Row::new(0, 2, 1, 5);
+    for (call, noted) in [
+        (Call::Add(added), Entry { kind: TAKE_OUT, at: 1, row: added }),
+        (Call::Withdraw(1), Entry { kind: PUT_IN, at: 0, row: timed(0) }),
+        (Call::Remark(1, 5), set(0)),
+    ] {
+        // The first 256 places move up; those from 256 on keep their words.
+        let mut expected = board.clone();
+        match call {
+            Call::Add(added) => {
+                expected.rows[1] = added;
+                expected.count = 2;
+            }
+            Call::Withdraw(_) => expected.count = 0,
+            _ => expected.rows[0] = timed(5),
+        }
+        expected.undone = 0;
+        expected.journal.copy_within(1..256, 0);
+        expected.journal[255] = noted;
+        assert_eq!(expected.journal[256], set(1));
+        let edited = done(board.clone(), call);
+        assert_eq!(edited, expected);
+        assert_eq!(edited.clone().redo().refusal, 17);
+        let mut machine = board.machine().unwrap();
+        assert_eq!(machine.call(call), 0);
+        assert_eq!((machine.kept.len(), machine.undone.len()), (256, 0));
+        assert_eq!(edited.machine(), Some(machine));
+    }
+    // Refused ones change no word.
+    for call in [Call::Add(row(0, 0, 0)), Call::Withdraw(2), Call::Remark(0, 5)] {
+        let edited = board.clone().call(call);
+        assert!(edited.refusal == 2 || edited.refusal == 4);
+        assert_eq!(edited.board, board);
+    }
+}
+
+#[test]
+fn what_counts_when_boards_are_compared() {
+    let board = board_of(&[row(0, 1, 1)], &[entry(TAKE_OUT, 0, 5)], &[entry(SET, 0, 6)]);
+    // The own row of an entry that takes out, and words beyond, don't count.
+    let mut other = board.clone();
+    other.journal[0].row = row(7, 7, 7);
+    other.journal[2] = entry(9, 9, 9);
+    other.rows[1] = row(7, 7, 7);
+    assert!(board.same(&other));
+    let differs = |change: fn(&mut Board)| {
+        let mut other = board.clone();
+        change(&mut other);
+        assert!(!board.same(&other) && !other.same(&board));
+    };
+    differs(|other| other.count = 0);
+    differs(|other| other.kept = 0);
+    differs(|other| other.undone = 0);
+    differs(|other| other.undone = 2);
+    differs(|other| other.rows[0].minutes = 8);
+    differs(|other| other.journal[0].at = 1);
+    differs(|other| other.journal[0].kind = PUT_IN);
+    differs(|other| other.journal[1].at = 1);
+    differs(|other| other.journal[1].row.minutes = 8);
+    // The places are told apart by the two numbers alone.
+    differs(|other| (other.kept, other.undone) = (2, 0));
+    assert_eq!(board.entries(), [entry(TAKE_OUT, 0, 5)]);
+    assert_eq!(board.undone_entries(), [entry(SET, 0, 6)]);
 }
 
 // Navigation on foreign slices.

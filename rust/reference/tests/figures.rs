@@ -156,15 +156,47 @@ fn m8_withdraw_and_undo() {
     assert_eq!(machine.withdraw(2), 0);
     assert_eq!(machine.rows.len(), 6);
     assert_eq!(machine.rows[1], Row::new(10, 30, 1, 4));
+    let withdrawn = machine.rows.clone();
     assert_eq!(machine.undo(), 0);
-    assert_eq!(machine, marked_machine());
+    assert_eq!(machine.rows, marked_rows());
+    assert_eq!(machine.kept, marked_machine().kept);
+    assert_eq!(machine.undone, [withdrawn]);
 
     let edited = marked_board().withdraw(2);
     assert_eq!(edited.refusal, 0);
     let edited = edited.board.undo();
     assert_eq!(edited.refusal, 0);
-    assert!(edited.board.same(&marked_board()));
     assert_eq!(edited.board.held(), marked_rows());
+    assert_eq!(edited.board.entries(), marked_board().entries());
+    assert_eq!(edited.board.machine(), Some(machine));
+}
+
+/// Withdraws row 2 and remarks row 1, undoes both to look at the older parts tree, and comes back.
+#[test]
+fn an_older_tree_is_left_again() {
+    let mut board = marked_board();
+    let mut machine = marked_machine();
+    let mut seen = Vec::new();
+    for (call, expected) in [
+        (Call::Withdraw(2), 0),
+        (Call::Remark(1, 50), 0),
+        (Call::Undo, 0),
+        (Call::Undo, 0),
+        (Call::Redo, 0),
+        (Call::Redo, 0),
+        (Call::Redo, 17),
+    ] {
+        let edited = board.call(call);
+        assert_eq!((edited.refusal, machine.call(call)), (expected, expected));
+        board = edited.board;
+        assert_eq!(board.machine(), Some(machine.clone()));
+        let mut index = vec![77; 8 + 6 * 20];
+        let mut totals = vec![77; 21];
+        let built = build_board(&board, 3, None, Start::ParentZero, &mut index, &mut totals);
+        seen.push((built.nodes, subtree_sum(&index, &totals, 1).sum));
+    }
+    // Without row 2 the ways over numeral 20 below the first row are gone: ranks 6 to 8.
+    assert_eq!(seen, [(6, 11), (6, 56), (6, 11), (9, 15), (6, 11), (6, 56), (6, 56)]);
 }
 
 #[test]
@@ -201,6 +233,7 @@ fn limit_of_rows() {
     }
     assert_eq!(board.held(), machine.rows);
     assert_eq!(board.kept, machine.kept.len());
+    assert_eq!(board.undone, 0);
 }
 
 #[test]
@@ -221,6 +254,62 @@ fn limit_of_kept_steps() {
         assert_eq!(board.kept, machine.kept.len());
     }
     assert_eq!(machine.rows, [Row::new(0, 1, 1, 0)]);
+}
+
+/// 257 adds, then 256 undos and a refused one, then 256 redos and a refused one; then one step at
+/// the limit each way.
+#[test]
+fn limit_of_undone_steps() {
+    let mut machine = Machine::new();
+    let mut board = Board::EMPTY;
+    let rows: Vec<Row> = (1..=257).map(|k| Row::new(0, k, k, 0)).collect();
+    let mut steps: Vec<(Call, u32, usize, usize)> = Vec::new();
+    for (place, row) in rows.iter().enumerate() {
+        steps.push((Call::Add(*row), 0, (place + 1).min(256), 0));
+    }
+    steps.extend((1..=256).map(|k| (Call::Undo, 0, 256 - k, k)));
+    steps.push((Call::Undo, 5, 0, 256));
+    steps.extend((1..=256).map(|k| (Call::Redo, 0, k, 256 - k)));
+    steps.push((Call::Redo, 17, 256, 0));
+    steps.push((Call::Undo, 0, 255, 1));
+    steps.push((Call::Redo, 0, 256, 0));
+    for (call, expected, kept, undone) in steps {
+        assert_eq!(machine.call(call), expected);
+        let edited = board.call(call);
+        assert_eq!(edited.refusal, expected);
+        board = edited.board;
+        assert_eq!((board.kept, board.undone), (kept, undone));
+        assert_eq!((machine.kept.len(), machine.undone.len()), (kept, undone));
+        assert_eq!(board.held(), machine.rows);
+    }
+    assert_eq!(machine.rows, rows);
+    assert_eq!(board.machine(), Some(machine));
+}
+
+/// The plain machine with 256 lists in K and in F: one more drops the last.
+#[test]
+fn limits_of_the_machine() {
+    let list = |k: i32| vec![Row::new(0, 1, 1, k)];
+    let machine = Machine {
+        rows: list(0),
+        kept: (1..=256).map(|k| list(-k)).collect(),
+        undone: (1..=256).map(list).collect(),
+    };
+    let mut undone = machine.clone();
+    assert_eq!(undone.undo(), 0);
+    assert_eq!(undone.rows, list(-1));
+    assert_eq!(undone.kept, (2..=256).map(|k| list(-k)).collect::<Vec<_>>());
+    assert_eq!(undone.undone, (0..=255).map(list).collect::<Vec<_>>());
+    let mut redone = machine.clone();
+    assert_eq!(redone.redo(), 0);
+    assert_eq!(redone.rows, list(1));
+    assert_eq!(redone.kept, (0..=255).map(|k| list(-k)).collect::<Vec<_>>());
+    assert_eq!(redone.undone, (2..=256).map(list).collect::<Vec<_>>());
+    let mut edited = machine.clone();
+    assert_eq!(edited.remark(1, 9), 0);
+    assert_eq!(edited.rows, list(9));
+    assert_eq!(edited.kept, (0..=255).map(|k| list(-k)).collect::<Vec<_>>());
+    assert_eq!(edited.undone, Vec::<Vec<Row>>::new());
 }
 
 #[test]
