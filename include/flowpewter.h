@@ -1,4 +1,4 @@
-/* Flowpewter: parts lists with undo, their forest of paths as an index, navigation and sums.
+/* Flowpewter: parts lists with undo and redo, their forest of paths as an index, navigation and sums.
  *
  * A board holds rows, each with a numeral and the numeral of its parent. A path is a chain of rows from a start row
  * down, each under the numeral of the row before; it is a node of its last row. So a part that is shown in three places
@@ -24,9 +24,10 @@
  * thread is plenty. A thread with a small stack is not: musl gives 128 KiB where nothing is said, and a build beside a
  * board of your own would run over its end. There, ask for 512 KB by pthread_attr_setstacksize.
  *
- * Comparing boards. Two boards are the same when their counts, their first `count` rows, their kept numbers and their
- * first `kept` journal entries are. Don't compare them by memcmp: places beyond those hold what was left there,
- * structs have padding, and of the entry of an add only the kind counts.
+ * Comparing boards. Two boards are the same when their counts, their first `count` rows, their kept and undone numbers
+ * and their first `kept + undone` journal entries are; of an entry that takes a row out, `row` isn't read and doesn't
+ * count. Don't compare boards by memcmp: they have no padding, but places beyond those hold what was left there.
+ * flowpewter_edited and flowpewter_replayed have padding too.
  */
 #ifndef FLOWPEWTER_H
 #define FLOWPEWTER_H
@@ -70,17 +71,20 @@ enum {
                                                   below its own; a total used is beyond 2^47 either side; or a node's
                                                   own minutes used in a path sum leave int32_t */
     FLOWPEWTER_REFUSED_LIST_TOO_LONG = 16,     /* the list found is longer than its slice */
+    FLOWPEWTER_REFUSED_NOTHING_UNDONE = 17,    /* redo finds no undone step */
     /* by flowpewter_replay as a whole; what it says of each call is one of the above */
     FLOWPEWTER_REFUSED_PART_OF_CALL = 101,     /* the words are no whole number of calls */
     FLOWPEWTER_REFUSED_UNKNOWN_CALL = 102,     /* a call is of no known kind */
     FLOWPEWTER_REFUSED_FEW_REFUSAL_WORDS = 103 /* there are fewer refusal words than calls */
 };
 
-/* ---- boards; refusals 1 to 5 */
+/* ---- boards; refusals 1 to 5 and 17 */
 
 enum {
-    FLOWPEWTER_MAX_ROWS = 1024, /* places for rows on a board */
-    FLOWPEWTER_MAX_KEPT = 256   /* places for journal entries on a board: so many edits can be undone */
+    FLOWPEWTER_MAX_ROWS = 1024,     /* places for rows on a board */
+    FLOWPEWTER_MAX_KEPT = 256,      /* most steps kept, to be undone */
+    FLOWPEWTER_MAX_UNDONE = 256,    /* most steps undone, to be redone */
+    FLOWPEWTER_JOURNAL_PLACES = 512 /* places for journal entries on a board */
 };
 
 /* A row: parent 0 is none, the numeral is 1 or more, minutes are negative for a deduction. */
@@ -91,28 +95,34 @@ typedef struct flowpewter_row {
     int32_t minutes;
 } flowpewter_row;
 
-/* Kinds of journal entry. */
+/* Kinds of journal entry. An entry of another kind can't be carried out. */
 enum {
-    FLOWPEWTER_ENTRY_ADD = 0,        /* undone by dropping the last row */
-    FLOWPEWTER_ENTRY_WITHDRAWAL = 1, /* undone by putting `row` in again at place `at` */
-    FLOWPEWTER_ENTRY_REMARK = 2      /* undone by making place `at` hold `row` */
+    FLOWPEWTER_ENTRY_TAKE_OUT = 0, /* takes out the row at place `at`; later rows move up by one */
+    FLOWPEWTER_ENTRY_PUT_IN = 1,   /* puts `row` in at place `at`; the row there and later ones move down by one */
+    FLOWPEWTER_ENTRY_SET = 2       /* makes place `at` hold `row` */
 };
 
-/* What undoes one edit. `at` is a place, counted from 0, and `row` the row that stood there before the edit. The entry
- * of an add has the place and the row that were added, which nothing reads. */
+/* A change of the rows, which an undo or a redo carries out. `at` is a place, counted from 0. An entry can be carried
+ * out when `at` is below the count, or to put in at most the count, and it leaves at most 1,024 rows, each with numeral
+ * 1 or more. Of an entry that takes a row out, edits make `row` that row, and nothing reads it. */
 typedef struct flowpewter_entry {
     uint32_t kind;
-    size_t at;
+    uint32_t at;
     flowpewter_row row;
 } flowpewter_entry;
 
-/* A board: `count` rows, and what undoes the `kept` newest edits, oldest first. Row numbers are counted from 1: row
- * number k is rows[k - 1]. A board may come from anywhere; a call on one that isn't sound is refused. */
+/* A board: `count` rows, and a journal that is one tape with a cursor. The first `kept` entries are the steps to undo,
+ * oldest first; the next `undone` entries are the steps to redo, newest first. So an undo carries out journal[kept - 1]
+ * and a redo journal[kept]; each leaves the entry that leads back in that place, and moves the cursor over it.
+ *
+ * Row numbers are counted from 1: row number k is rows[k - 1]. A board may come from anywhere; a call on one that isn't
+ * sound is refused. */
 typedef struct flowpewter_board {
     size_t count;
     flowpewter_row rows[FLOWPEWTER_MAX_ROWS];
     size_t kept;
-    flowpewter_entry journal[FLOWPEWTER_MAX_KEPT];
+    size_t undone;
+    flowpewter_entry journal[FLOWPEWTER_JOURNAL_PLACES];
 } flowpewter_board;
 
 typedef struct flowpewter_edited {
@@ -120,13 +130,16 @@ typedef struct flowpewter_edited {
     uint32_t refusal;
 } flowpewter_edited;
 
-/* The board of no rows and no kept edits. */
+/* The board of no rows and no steps. */
 flowpewter_board flowpewter_empty(void);
 
-/* Whether the count is at most 1,024, the kept number at most 256, every held row has numeral 1 or more, and the newest
- * entry (if any) can be undone to at most 1,024 rows, each with numeral 1 or more. Every board that edits make from the
- * empty one is sound. */
+/* Whether the count is at most 1,024, the kept number and the undone number at most 256 each, every held row has
+ * numeral 1 or more, and the newest kept entry and the newest undone one (if any) can each be carried out on the held
+ * rows. Every board that edits make from the empty one is sound. */
 bool flowpewter_sound(flowpewter_board board);
+
+/* An accepted add, withdraw or remark becomes the newest kept step, of which the oldest beyond 256 is forgotten, and
+ * all undone steps are forgotten. */
 
 /* Puts the row at the end. 1, 2, 3. */
 flowpewter_edited flowpewter_add(flowpewter_board board, flowpewter_row row);
@@ -137,8 +150,15 @@ flowpewter_edited flowpewter_withdraw(flowpewter_board board, size_t k);
 /* Gives row number k new minutes. 1, 4. */
 flowpewter_edited flowpewter_remark(flowpewter_board board, size_t k, int32_t minutes);
 
-/* Goes back to the rows before the newest kept edit. 1, 5. */
+/* Goes back to the rows before the newest kept step, which becomes the newest undone one and can be redone. 1, 5. */
 flowpewter_edited flowpewter_undo(flowpewter_board board);
+
+/* Goes forward to the rows after the newest undone step, which becomes the newest kept one and can be undone. 1, 17.
+ *
+ * A board that edits make from the empty one has at most 256 steps, kept and undone together, so that undo and redo
+ * forget none. On any other sound board an undo forgets the oldest undone step beyond 256, and a redo the oldest kept
+ * one. */
+flowpewter_edited flowpewter_redo(flowpewter_board board);
 
 /* Edits as words, five to a call: its kind, then what it takes; words that it doesn't use are ignored. */
 enum {
@@ -146,6 +166,7 @@ enum {
     FLOWPEWTER_CALL_WITHDRAW = 1, /* row number */
     FLOWPEWTER_CALL_REMARK = 2,   /* row number, minutes */
     FLOWPEWTER_CALL_UNDO = 3,
+    FLOWPEWTER_CALL_REDO = 4,
     FLOWPEWTER_CALL_WORDS = 5
 };
 

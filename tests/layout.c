@@ -23,6 +23,7 @@ static void structs(void) {
     FIELD(board, count);
     FIELD(board, rows);
     FIELD(board, kept);
+    FIELD(board, undone);
     FIELD(board, journal);
     STRUCT(edited);
     FIELD(edited, board);
@@ -54,6 +55,8 @@ static void structs(void) {
 static void constants(void) {
     CONSTANT(MAX_ROWS);
     CONSTANT(MAX_KEPT);
+    CONSTANT(MAX_UNDONE);
+    CONSTANT(JOURNAL_PLACES);
     CONSTANT(MAX_NODES);
     CONSTANT(CONTENTS);
     CONSTANT(BODY);
@@ -61,7 +64,7 @@ static void constants(void) {
     CONSTANT(CLOSING_BIT);
     CONSTANT(ORPHAN_BIT);
     CONSTANT(CALL_WORDS);
-    printf("entries %d %d %d\n", FLOWPEWTER_ENTRY_ADD, FLOWPEWTER_ENTRY_WITHDRAWAL, FLOWPEWTER_ENTRY_REMARK);
+    printf("entries %d %d %d\n", FLOWPEWTER_ENTRY_TAKE_OUT, FLOWPEWTER_ENTRY_PUT_IN, FLOWPEWTER_ENTRY_SET);
     printf("lengths %zu %zu\n", FLOWPEWTER_INDEX_LEN(7), FLOWPEWTER_TOTALS_LEN(7));
 }
 
@@ -82,6 +85,7 @@ static void refusals(void) {
     REFUSAL(NoSuchRank, NO_SUCH_RANK);
     REFUSAL(DamagedIndex, DAMAGED_INDEX);
     REFUSAL(ListTooLong, LIST_TOO_LONG);
+    REFUSAL(NothingUndone, NOTHING_UNDONE);
     REFUSAL(PartOfCall, PART_OF_CALL);
     REFUSAL(UnknownCall, UNKNOWN_CALL);
     REFUSAL(FewRefusalWords, FEW_REFUSAL_WORDS);
@@ -106,8 +110,8 @@ static void codes(void) {
 }
 
 static void words(void) {
-    printf("call %d\ncall %d\ncall %d\ncall %d\n", FLOWPEWTER_CALL_ADD, FLOWPEWTER_CALL_WITHDRAW,
-           FLOWPEWTER_CALL_REMARK, FLOWPEWTER_CALL_UNDO);
+    printf("call %d\ncall %d\ncall %d\ncall %d\ncall %d\n", FLOWPEWTER_CALL_ADD, FLOWPEWTER_CALL_WITHDRAW,
+           FLOWPEWTER_CALL_REMARK, FLOWPEWTER_CALL_UNDO, FLOWPEWTER_CALL_REDO);
     printf("body [%d, %d, %d, %d, %d, %d]\n", FLOWPEWTER_BODY_NUMERAL, FLOWPEWTER_BODY_ROW, FLOWPEWTER_BODY_SIZE,
            FLOWPEWTER_BODY_PARENT, FLOWPEWTER_BODY_ROOT, FLOWPEWTER_BODY_LEVEL);
 }

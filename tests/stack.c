@@ -12,18 +12,21 @@ enum {
     NODES = FLOWPEWTER_MAX_ROWS,
     WORDS = FLOWPEWTER_INDEX_LEN(NODES),
     TOTALS = FLOWPEWTER_TOTALS_LEN(NODES),
-    CALL_WORDS = FLOWPEWTER_CALL_WORDS * NODES,
+    CALLS = NODES + 5,
+    CALL_WORDS = FLOWPEWTER_CALL_WORDS * CALLS,
     STACK = 8 << 20,
     MOST = 256000,
     PAINT = 0xA5
 };
 
-/* A chain of 1,024 rows, the deepest forest, and a journal without room. */
+/* A chain of 1,024 rows, the deepest forest, and a journal with all its places in use. */
 static flowpewter_board board;
 static uint32_t words[WORDS];
 static int64_t totals[TOTALS];
 static uint32_t list[NODES];
+/* Adds that fill a board, then each other kind of call. */
 static uint32_t calls[CALL_WORDS];
+static uint32_t refusals[CALLS];
 
 static flowpewter_board made;
 static flowpewter_edited edited;
@@ -60,10 +63,19 @@ static void undo(void) {
     answer = (int64_t)edited.board.kept;
 }
 
+static void redo(void) {
+    edited = flowpewter_redo(board);
+    refusal = edited.refusal;
+    answer = (int64_t)edited.board.undone;
+}
+
 static void replay(void) {
-    replayed = flowpewter_replay(calls, CALL_WORDS, list, NODES);
+    replayed = flowpewter_replay(calls, CALL_WORDS, refusals, CALLS);
     refusal = replayed.refusal;
     answer = (int64_t)replayed.board.count;
+    for (size_t i = 0; i < CALLS; i++) {
+        refusal |= refusals[i];
+    }
 }
 
 static void build(void) {
@@ -132,7 +144,8 @@ static const struct job {
     {"withdraw", withdraw, 0, NODES - 1},
     {"remark", remark, 0, 7},
     {"undo", undo, 0, FLOWPEWTER_MAX_KEPT - 1},
-    {"replay", replay, 0, NODES},
+    {"redo", redo, 0, FLOWPEWTER_MAX_UNDONE - 1},
+    {"replay", replay, 0, NODES - 1},
     {"build_default", build, 0, NODES},
     {"build", build_by_list, 0, NODES},
     {"span", span, 0, FLOWPEWTER_BODY * NODES},
@@ -165,18 +178,34 @@ static size_t used(unsigned char *stack, void (*call)(void)) {
     return STACK - unused;
 }
 
-int main(void) {
+static void fill_board(void) {
     board.count = FLOWPEWTER_MAX_ROWS;
     for (uint32_t i = 0; i < NODES; i++) {
         board.rows[i] = (flowpewter_row){i, i + 1, 1, 1};
+    }
+    board.kept = FLOWPEWTER_MAX_KEPT;
+    board.undone = FLOWPEWTER_MAX_UNDONE;
+    for (size_t i = 0; i < FLOWPEWTER_JOURNAL_PLACES; i++) {
+        board.journal[i] = (flowpewter_entry){FLOWPEWTER_ENTRY_SET, 0, board.rows[0]};
+    }
+}
+
+static void fill_calls(void) {
+    static const uint32_t others[CALLS - NODES][FLOWPEWTER_CALL_WORDS] = {
+        {FLOWPEWTER_CALL_WITHDRAW, 1}, {FLOWPEWTER_CALL_REMARK, 1, 7}, {FLOWPEWTER_CALL_UNDO},
+        {FLOWPEWTER_CALL_UNDO},        {FLOWPEWTER_CALL_REDO},
+    };
+    for (uint32_t i = 0; i < NODES; i++) {
         uint32_t *words_of_call = calls + FLOWPEWTER_CALL_WORDS * i;
         words_of_call[0] = FLOWPEWTER_CALL_ADD;
         words_of_call[2] = i + 1;
     }
-    board.kept = FLOWPEWTER_MAX_KEPT;
-    for (size_t i = 0; i < FLOWPEWTER_MAX_KEPT; i++) {
-        board.journal[i] = (flowpewter_entry){FLOWPEWTER_ENTRY_REMARK, 0, board.rows[0]};
-    }
+    memcpy(calls + FLOWPEWTER_CALL_WORDS * NODES, others, sizeof others);
+}
+
+int main(void) {
+    fill_board();
+    fill_calls();
     unsigned char *stack = aligned_alloc(4096, STACK);
     if (stack == NULL) {
         return 2;
