@@ -6,8 +6,12 @@ use crate::sys;
 
 /// Places for rows on a board.
 pub const MAX_ROWS: usize = 1_024;
-/// Places for journal entries on a board.
+/// Most steps kept, to be undone.
 pub const MAX_KEPT: usize = 256;
+/// Most steps undone, to be redone.
+pub const MAX_UNDONE: usize = 256;
+/// Places for journal entries on a board.
+pub const JOURNAL_PLACES: usize = MAX_KEPT + MAX_UNDONE;
 
 /// A row of a board. Parent 0 is none; minutes are negative for a deduction.
 #[repr(C)]
@@ -25,33 +29,34 @@ impl Row {
     }
 }
 
-/// A journal entry: what undoes one edit. `at` is a place, counted from 0, and `row` the row that stood there before.
-/// The entry of an add has the place and the row that were added, which nothing reads.
+/// A journal entry: a change of the rows, which an undo or a redo carries out. `at` is a place, counted from 0.
+///
+/// It can be carried out when `at` is below the count, or to put in at most the count, and it leaves at most 1,024
+/// rows, each with numeral 1 or more. Of an entry that takes a row out, edits make `row` that row, and nothing reads it.
 #[repr(C)]
 #[derive(Clone, Copy, Debug, PartialEq, Eq, Hash, Default)]
 pub struct Entry {
-    /// [`Entry::ADD`], [`Entry::WITHDRAWAL`] or [`Entry::REMARK`].
+    /// [`Entry::TAKE_OUT`], [`Entry::PUT_IN`] or [`Entry::SET`]; an entry of another kind can't be carried out.
     pub kind: u32,
-    pub at: usize,
+    pub at: u32,
     pub row: Row,
 }
 
 impl Entry {
-    /// The kind of an add, undone by dropping the last row.
-    pub const ADD: u32 = 0;
-    /// The kind of a withdrawal, undone by putting `row` in again at place `at`.
-    pub const WITHDRAWAL: u32 = 1;
-    /// The kind of a remark, undone by making place `at` hold `row`.
-    pub const REMARK: u32 = 2;
+    /// Takes out the row at place `at`; later rows move up by one.
+    pub const TAKE_OUT: u32 = 0;
+    /// Puts `row` in at place `at`; the row there and later ones move down by one.
+    pub const PUT_IN: u32 = 1;
+    /// Makes place `at` hold `row`.
+    pub const SET: u32 = 2;
 }
 
-/// A board: its rows and the journal of its last 256 edits, oldest first.
+/// A board: its rows, and a journal that is one tape with a cursor.
 ///
-/// The fields are open since a board may come from anywhere: a call on one that isn't sound is refused. Row number k is
-/// `rows[k - 1]`.
-///
-/// Two boards are the same when what they hold is, [`Board::held`] and [`Board::steps`]. `==` compares all places, also
-/// those beyond the counts, which hold what was left there.
+/// The first `kept` entries of the journal are the steps to undo, oldest first; the next `undone` entries are the steps
+/// to redo, newest first. So an undo carries out `journal[kept - 1]` and a redo `journal[kept]`; each leaves the entry
+/// that leads back in that place, and moves the cursor over it. An accepted add, withdraw or remark becomes the newest
+/// kept step, of which the oldest beyond 256 is forgotten, and all undone steps are forgotten.
 ///
 /// ```
 /// use flowpewter::{Board, Refusal, Row};
@@ -63,9 +68,38 @@ impl Entry {
 /// assert_eq!(board.held()[1].minutes, 15);
 /// board.undo()?;
 /// assert_eq!(board.held()[1].minutes, 12);
+/// board.redo()?;
+/// assert_eq!(board.held()[1].minutes, 15);
+///
+/// board.undo()?;
 /// board.withdraw(1)?;
 /// assert_eq!(board.held(), [Row::new(10, 40, 1, 12)]);
+/// assert_eq!(board.redo(), Err(Refusal::NothingUndone)); // the withdrawal came after the undo
 /// assert_eq!(board.withdraw(2), Err(Refusal::NoSuchRow));
+/// # Ok::<(), Refusal>(())
+/// ```
+///
+/// The fields are open since a board may come from anywhere: a call on one that isn't sound is refused. Row number k is
+/// `rows[k - 1]`.
+///
+/// Two boards are the same when what they hold is: [`Board::held`], [`Board::kept_steps`] and [`Board::undone_steps`],
+/// an entry that takes a row out without its own row. `==` compares all places, also those beyond, which hold what was
+/// left there.
+///
+/// ```
+/// use flowpewter::{Board, Refusal, Row};
+///
+/// let mut board = Board::EMPTY;
+/// board.add(Row::new(0, 10, 1, 30))?;
+/// let mut other = board;
+/// other.add(Row::new(10, 40, 1, 12))?;
+/// other.undo()?;
+/// board.remark(1, 45)?;
+/// other.remark(1, 45)?;
+/// assert_eq!(board.held(), other.held());
+/// assert_eq!(board.kept_steps(), other.kept_steps());
+/// assert_eq!(board.undone_steps(), other.undone_steps());
+/// assert_ne!(board, other); // the place of the row that was added keeps it
 /// # Ok::<(), Refusal>(())
 /// ```
 #[repr(C)]
@@ -74,7 +108,8 @@ pub struct Board {
     pub count: usize,
     pub rows: [Row; MAX_ROWS],
     pub kept: usize,
-    pub journal: [Entry; MAX_KEPT],
+    pub undone: usize,
+    pub journal: [Entry; JOURNAL_PLACES],
 }
 
 impl Default for Board {
@@ -84,12 +119,13 @@ impl Default for Board {
 }
 
 impl Board {
-    /// No rows and no kept edits.
+    /// No rows and no steps.
     pub const EMPTY: Board = Board {
         count: 0,
         rows: [Row::new(0, 0, 0, 0); MAX_ROWS],
         kept: 0,
-        journal: [Entry { kind: 0, at: 0, row: Row::new(0, 0, 0, 0) }; MAX_KEPT],
+        undone: 0,
+        journal: [Entry { kind: 0, at: 0, row: Row::new(0, 0, 0, 0) }; JOURNAL_PLACES],
     };
 
     /// The rows held, in order; of a count above 1,024, which no sound board has, all places.
@@ -97,7 +133,8 @@ impl Board {
         &self.rows[..self.count.min(MAX_ROWS)]
     }
 
-    /// The kept journal entries, oldest first; of a kept number above 256, which no sound board has, all places.
+    /// The entries that undo the kept steps, oldest first. A kept number above 256, which no sound board has, is taken
+    /// for 256.
     ///
     /// ```
     /// use flowpewter::{Board, Entry, Refusal, Row};
@@ -105,28 +142,45 @@ impl Board {
     /// let mut board = Board::EMPTY;
     /// board.add(Row::new(0, 10, 1, 30))?;
     /// board.remark(1, 45)?;
-    /// assert_eq!(board.steps().last(), Some(&Entry { kind: Entry::REMARK, at: 0, row: Row::new(0, 10, 1, 30) }));
-    ///
-    /// let before = board;
-    /// board.add(Row::new(10, 40, 1, 12))?;
-    /// board.undo()?;
-    /// assert_eq!((board.held(), board.steps()), (before.held(), before.steps()));
-    /// assert_ne!(board, before); // the place of the row that was added keeps it
+    /// let first = Entry { kind: Entry::TAKE_OUT, at: 0, row: Row::new(0, 10, 1, 30) };
+    /// let second = Entry { kind: Entry::SET, at: 0, row: Row::new(0, 10, 1, 30) };
+    /// assert_eq!(board.kept_steps(), [first, second]);
     /// # Ok::<(), Refusal>(())
     /// ```
-    pub fn steps(&self) -> &[Entry] {
+    pub fn kept_steps(&self) -> &[Entry] {
         &self.journal[..self.kept.min(MAX_KEPT)]
     }
 
-    /// Whether the board is one that edits and builds take: the count is at most 1,024, the kept number at most 256,
-    /// every held row has numeral 1 or more, and the newest entry, if any, can be undone to such rows. Every board that
-    /// edits make from the empty one is sound.
+    /// The entries that redo the undone steps, newest first. A kept or undone number above 256, which no sound board
+    /// has, is taken for 256.
+    ///
+    /// ```
+    /// use flowpewter::{Board, Entry, Refusal, Row};
+    ///
+    /// let mut board = Board::EMPTY;
+    /// board.add(Row::new(0, 10, 1, 30))?;
+    /// board.remark(1, 45)?;
+    /// board.undo()?;
+    /// board.undo()?;
+    /// let first = Entry { kind: Entry::PUT_IN, at: 0, row: Row::new(0, 10, 1, 30) };
+    /// let second = Entry { kind: Entry::SET, at: 0, row: Row::new(0, 10, 1, 45) };
+    /// assert_eq!(board.undone_steps(), [first, second]);
+    /// # Ok::<(), Refusal>(())
+    /// ```
+    pub fn undone_steps(&self) -> &[Entry] {
+        &self.journal[self.kept.min(MAX_KEPT)..][..self.undone.min(MAX_UNDONE)]
+    }
+
+    /// Whether the board is one that edits and builds take: the count is at most 1,024, the kept number and the undone
+    /// number at most 256 each, every held row has numeral 1 or more, and the newest kept entry and the newest undone
+    /// one, if any, can each be carried out on the held rows. Every board that edits make from the empty one is sound.
     ///
     /// ```
     /// use flowpewter::Board;
     ///
     /// assert!(Board::EMPTY.is_sound());
     /// assert!(!Board { count: 2_000, ..Board::EMPTY }.is_sound());
+    /// assert!(!Board { undone: 1, ..Board::EMPTY }.is_sound()); // no row is there to take out
     /// ```
     pub fn is_sound(&self) -> bool {
         sys::sound(self)
@@ -147,9 +201,20 @@ impl Board {
         self.take(sys::remark(self, number, minutes))
     }
 
-    /// Goes back to the rows before the newest kept edit. Refused with 1 or 5.
+    /// Goes back to the rows before the newest kept step, which becomes the newest undone one and can be redone.
+    /// Refused with 1 or 5.
     pub fn undo(&mut self) -> Result<(), Refusal> {
         self.take(sys::undo(self))
+    }
+
+    /// Goes forward to the rows after the newest undone step, which becomes the newest kept one and can be undone.
+    /// Refused with 1 or 17.
+    ///
+    /// A board that edits make from the empty one has at most 256 steps, kept and undone together, so that undo and
+    /// redo forget none. On any other sound board an undo forgets the oldest undone step beyond 256, and a redo the
+    /// oldest kept one.
+    pub fn redo(&mut self) -> Result<(), Refusal> {
+        self.take(sys::redo(self))
     }
 
     /// Makes one call.
@@ -159,6 +224,7 @@ impl Board {
             Call::Withdraw(number) => self.withdraw(number as usize),
             Call::Remark(number, minutes) => self.remark(number as usize, minutes),
             Call::Undo => self.undo(),
+            Call::Redo => self.redo(),
         }
     }
 
@@ -179,6 +245,7 @@ pub enum Call {
     Withdraw(u32),
     Remark(u32, i32),
     Undo,
+    Redo,
 }
 
 impl Call {
@@ -189,6 +256,7 @@ impl Call {
             Call::Withdraw(number) => [1, number, 0, 0, 0],
             Call::Remark(number, minutes) => [2, number, minutes as u32, 0, 0],
             Call::Undo => [3, 0, 0, 0, 0],
+            Call::Redo => [4, 0, 0, 0, 0],
         }
     }
 }
@@ -199,12 +267,13 @@ impl Call {
 /// ```
 /// use flowpewter::{replay, Call, Refusal, Row};
 ///
-/// let calls = [Call::Add(Row::new(0, 10, 1, 30)), Call::Withdraw(2), Call::Undo, Call::Undo];
+/// let row = Row::new(0, 10, 1, 30);
+/// let calls = [Call::Add(row), Call::Withdraw(2), Call::Undo, Call::Undo, Call::Redo, Call::Redo];
 /// let words: Vec<u32> = calls.into_iter().flat_map(Call::words).collect();
-/// let mut refusals = [9; 5];
+/// let mut refusals = [9; 7];
 /// let board = replay(&words, &mut refusals)?;
-/// assert_eq!(refusals, [0, 4, 0, 5, 9]);
-/// assert_eq!(board.count, 0);
+/// assert_eq!(refusals, [0, 4, 0, 5, 0, 17, 9]);
+/// assert_eq!(board.held(), [row]);
 /// # Ok::<(), Refusal>(())
 /// ```
 pub fn replay(words: &[u32], refusals: &mut [u32]) -> Result<Board, Refusal> {

@@ -1,6 +1,6 @@
-//! Parts lists with undo, their forest of paths as an index, navigation and sums.
+//! Parts lists with undo and redo, their forest of paths as an index, navigation and sums.
 //!
-//! * [`Board`]: rows with a parent, a numeral, an order and minutes; edits and undo.
+//! * [`Board`]: rows with a parent, a numeral, an order and minutes; edits, undo and redo.
 //! * [`build`]: the forest of a board's paths as an index, and running totals of the minutes.
 //! * [`span`], [`descendants`], [`ancestors`], [`siblings`]: navigation by rank.
 //! * [`subtree_sum`], [`path_sum`]: minutes below a node and on the way up from it.
@@ -20,7 +20,9 @@ mod index;
 mod refusal;
 pub mod sys;
 
-pub use board::{replay, Board, Call, Entry, Row, CALL_WORDS, MAX_KEPT, MAX_ROWS};
+pub use board::{
+    replay, Board, Call, Entry, Row, CALL_WORDS, JOURNAL_PLACES, MAX_KEPT, MAX_ROWS, MAX_UNDONE,
+};
 pub use build::{build, build_with_code, Built, Cycle, Multi, Options, Orphan, Start};
 pub use index::{
     ancestors, bodies, descendants, index_check, index_len, path_sum, siblings, span, subtree_sum,

@@ -53,6 +53,8 @@ pub enum Refusal {
     DamagedIndex = 15,
     /// The list found is longer than its slice.
     ListTooLong = 16,
+    /// Redo finds no undone step.
+    NothingUndone = 17,
     /// Replay: the words are no whole number of calls.
     PartOfCall = 101,
     /// Replay: a call is of no known kind.
@@ -62,7 +64,7 @@ pub enum Refusal {
 }
 
 /// All refusals, in the order of their numbers.
-pub const REFUSALS: [Refusal; 19] = [
+pub const REFUSALS: [Refusal; 20] = [
     Refusal::UnsoundBoard,
     Refusal::NumeralZero,
     Refusal::FullBoard,
@@ -79,6 +81,7 @@ pub const REFUSALS: [Refusal; 19] = [
     Refusal::NoSuchRank,
     Refusal::DamagedIndex,
     Refusal::ListTooLong,
+    Refusal::NothingUndone,
     Refusal::PartOfCall,
     Refusal::UnknownCall,
     Refusal::FewRefusalWords,
@@ -123,6 +126,7 @@ impl fmt::Display for Refusal {
             Refusal::NoSuchRank => "the index has no such rank",
             Refusal::DamagedIndex => "the index or the totals contradict themselves",
             Refusal::ListTooLong => "the list found is longer than its slice",
+            Refusal::NothingUndone => "there is no undone step to redo",
             Refusal::PartOfCall => "the words are no whole number of calls",
             Refusal::UnknownCall => "a call is of no known kind",
             Refusal::FewRefusalWords => "there are fewer refusal words than calls",

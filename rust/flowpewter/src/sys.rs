@@ -73,6 +73,7 @@ extern "C" {
     fn flowpewter_withdraw(board: Board, k: usize) -> Edited;
     fn flowpewter_remark(board: Board, k: usize, minutes: i32) -> Edited;
     fn flowpewter_undo(board: Board) -> Edited;
+    fn flowpewter_redo(board: Board) -> Edited;
     fn flowpewter_replay(
         words: *const u32,
         words_len: usize,
@@ -164,6 +165,10 @@ pub fn remark(board: &Board, k: usize, minutes: i32) -> Edited {
 
 pub fn undo(board: &Board) -> Edited {
     unsafe { flowpewter_undo(*board) }
+}
+
+pub fn redo(board: &Board) -> Edited {
+    unsafe { flowpewter_redo(*board) }
 }
 
 pub fn replay(words: &[u32], refusals: &mut [u32]) -> Replayed {
