@@ -17,6 +17,7 @@ pub fn board(from: &reference::Board) -> Board {
         count: from.count,
         rows: from.rows.map(row),
         kept: from.kept,
+        undone: from.undone,
         journal: from.journal.map(entry),
     }
 }
@@ -31,6 +32,7 @@ fn edit(board: &Board, call: Call) -> Edited {
         Call::Withdraw(k) => sys::withdraw(board, k),
         Call::Remark(k, minutes) => sys::remark(board, k, minutes),
         Call::Undo => sys::undo(board),
+        Call::Redo => sys::redo(board),
     }
 }
 
@@ -40,6 +42,7 @@ fn name(call: Call) -> &'static str {
         Call::Withdraw(_) => "withdraw",
         Call::Remark(..) => "remark",
         Call::Undo => "undo",
+        Call::Redo => "redo",
     }
 }
 
@@ -61,7 +64,8 @@ fn compare(
     (edited.refusal, edited.board, expected.board)
 }
 
-/// One list of calls from the empty board against the plain machine and the reference's board, then undone to the bottom.
+/// One list of calls from the empty board against the plain machine and the reference's board, then undone to the bottom
+/// and redone to the top.
 pub fn histories(random: &mut Random, kind: History, tally: &mut Tally) {
     let mut machine = Machine::new();
     let mut library = sys::empty();
@@ -74,6 +78,7 @@ pub fn histories(random: &mut Random, kind: History, tally: &mut Tally) {
         (library, reference) = (answer.1, answer.2);
         assert_eq!(library.held(), held(&machine));
         assert_eq!(library.kept, machine.kept.len());
+        assert_eq!(library.undone, machine.undone.len());
         assert!(sys::sound(&library));
         refusal
     };
@@ -81,9 +86,10 @@ pub fn histories(random: &mut Random, kind: History, tally: &mut Tally) {
         step(call);
     }
     while step(Call::Undo) == 0 {}
+    while step(Call::Redo) == 0 {}
 }
 
-/// Any call on boards that no history makes, sound and not.
+/// Any call on boards that no history makes, sound and not, then undo and redo on what it leaves.
 pub fn boards(random: &mut Random, tally: &mut Tally) {
     let mut all = unsound_boards(random);
     all.extend(sound_boards(random));
@@ -97,8 +103,13 @@ pub fn boards(random: &mut Random, tally: &mut Tally) {
             Call::Withdraw(random.place(near)),
             Call::Remark(random.place(near), random.minutes()),
             Call::Undo,
+            Call::Redo,
         ] {
-            compare(&library, reference.clone(), call, tally);
+            let (_, after, expected) = compare(&library, reference.clone(), call, tally);
+            assert_eq!(sys::sound(&after), expected.sound(), "{name}, {call:?}");
+            for next in [Call::Undo, Call::Redo] {
+                compare(&after, expected.clone(), next, tally);
+            }
         }
     }
 }
@@ -110,6 +121,7 @@ fn words(call: Call, random: &mut Random) -> [u32; 5] {
         Call::Withdraw(k) => &[1, k as u32],
         Call::Remark(k, minutes) => &[2, k as u32, minutes as u32],
         Call::Undo => &[3],
+        Call::Redo => &[4],
     };
     words[..used.len()].copy_from_slice(used);
     words
@@ -133,7 +145,7 @@ pub fn replays(random: &mut Random, kind: History, tally: &mut Tally) {
         told.extend(random.noise(extra));
     }
     if random.chance(1, 5) && !calls.is_empty() {
-        told[5 * random.below(calls.len())] = random.pick(&[4, 5, 1 << 31, u32::MAX]);
+        told[5 * random.below(calls.len())] = random.pick(&[5, 6, 1 << 31, u32::MAX]);
     }
     let room = match random.below(5) {
         0 => random.below(calls.len() + 1),
@@ -146,7 +158,7 @@ pub fn replays(random: &mut Random, kind: History, tally: &mut Tally) {
     let replayed = sys::replay(&told, &mut after);
     let refusal = if told.len() % 5 != 0 {
         101
-    } else if told.chunks(5).any(|call| call[0] > 3) {
+    } else if told.chunks(5).any(|call| call[0] > 4) {
         102
     } else if room < calls.len() {
         103

@@ -17,6 +17,7 @@ fn histories() {
     tally.expect("withdraw", &[0, 4], 100);
     tally.expect("remark", &[0, 4], 100);
     tally.expect("undo", &[0, 5], 100);
+    tally.expect("redo", &[0, 17], 100);
 }
 
 #[test]
@@ -31,6 +32,7 @@ fn boards_that_no_history_makes() {
     tally.expect("withdraw", &[0, 1, 4], 100);
     tally.expect("remark", &[0, 1, 4], 100);
     tally.expect("undo", &[0, 1, 5], 100);
+    tally.expect("redo", &[0, 1, 17], 100);
 }
 
 #[test]

@@ -18,7 +18,7 @@ macro_rules! constants {
 fn main() {
     layout!("row", Row, parent numeral order minutes);
     layout!("entry", Entry, kind at row);
-    layout!("board", Board, count rows kept journal);
+    layout!("board", Board, count rows kept undone journal);
     layout!("edited", Edited, board refusal);
     layout!("replayed", Replayed, refusal calls board);
     layout!("built", sys::Built, refusal nodes left);
@@ -26,8 +26,9 @@ fn main() {
     layout!("listed", Listed, refusal len);
     layout!("climbed", Climbed, refusal len links);
     layout!("summed", Summed, refusal sum);
-    constants!(MAX_ROWS MAX_KEPT MAX_NODES CONTENTS BODY LEVEL_MASK CLOSING_BIT ORPHAN_BIT CALL_WORDS);
-    println!("entries {} {} {}", Entry::ADD, Entry::WITHDRAWAL, Entry::REMARK);
+    constants!(MAX_ROWS MAX_KEPT MAX_UNDONE JOURNAL_PLACES);
+    constants!(MAX_NODES CONTENTS BODY LEVEL_MASK CLOSING_BIT ORPHAN_BIT CALL_WORDS);
+    println!("entries {} {} {}", Entry::TAKE_OUT, Entry::PUT_IN, Entry::SET);
     println!("lengths {} {}", index_len(7), totals_len(7));
     for refusal in REFUSALS {
         println!("{refusal:?} {}", refusal.number());
@@ -40,7 +41,8 @@ fn main() {
             }
         }
     }
-    for call in [Call::Add(Row::default()), Call::Withdraw(0), Call::Remark(0, 0), Call::Undo] {
+    let added = Call::Add(Row::default());
+    for call in [added, Call::Withdraw(0), Call::Remark(0, 0), Call::Undo, Call::Redo] {
         println!("call {}", call.words()[0]);
     }
     let words = [0, 1, 2, 3, 4, 5];
