@@ -6,17 +6,19 @@
 use flowpewter::sys::{Built, Edited, Listed};
 use flowpewter::{
     Board, Entry, Row, BODY, CLOSING_BIT, CONTENTS, LEVEL_MASK, MAX_KEPT, MAX_NODES, MAX_ROWS,
-    ORPHAN_BIT,
+    MAX_UNDONE, ORPHAN_BIT,
 };
+use std::mem::replace;
 
 /// Stands for no class.
 const NONE: u16 = u16::MAX;
 
-fn can_undo(entry: &Entry, count: usize) -> bool {
+fn can_be_carried_out(entry: &Entry, count: usize) -> bool {
+    let at = entry.at as usize;
     match entry.kind {
-        Entry::ADD => count > 0,
-        Entry::WITHDRAWAL => entry.row.numeral != 0 && count < MAX_ROWS && entry.at <= count,
-        Entry::REMARK => entry.row.numeral != 0 && entry.at < count,
+        Entry::TAKE_OUT => at < count,
+        Entry::PUT_IN => entry.row.numeral != 0 && count < MAX_ROWS && at <= count,
+        Entry::SET => entry.row.numeral != 0 && at < count,
         _ => false,
     }
 }
@@ -24,24 +26,40 @@ fn can_undo(entry: &Entry, count: usize) -> bool {
 pub fn sound(board: &Board) -> bool {
     board.count <= MAX_ROWS
         && board.kept <= MAX_KEPT
+        && board.undone <= MAX_UNDONE
         && board.held().iter().all(|row| row.numeral != 0)
-        && (board.kept == 0 || can_undo(&board.journal[board.kept - 1], board.count))
+        && board.kept_steps().last().is_none_or(|newest| can_be_carried_out(newest, board.count))
+        && board.undone_steps().first().is_none_or(|newest| can_be_carried_out(newest, board.count))
 }
 
-fn note(board: &mut Board, entry: Entry) {
+/// Makes the entry the newest kept one; of 257 the oldest is dropped, and the entries up to place `end` move up by one.
+fn keep(board: &mut Board, entry: Entry, end: usize) {
     if board.kept == MAX_KEPT {
-        board.journal.copy_within(1.., 0);
+        board.journal.copy_within(1..end, 0);
         board.kept -= 1;
     }
     board.journal[board.kept] = entry;
     board.kept += 1;
 }
 
-/// By value, as the library has it.
-#[inline(never)]
-pub fn add(mut board: Board, row: Row) -> Edited {
-    let refusal = add_in_place(&mut board, row);
-    Edited { board, refusal }
+/// Answers the entry that leads back.
+fn carry_out(board: &mut Board, entry: Entry) -> Entry {
+    let at = entry.at as usize;
+    match entry.kind {
+        Entry::TAKE_OUT => {
+            let row = board.rows[at];
+            board.rows.copy_within(at + 1..board.count, at);
+            board.count -= 1;
+            Entry { kind: Entry::PUT_IN, at: entry.at, row }
+        }
+        Entry::PUT_IN => {
+            board.rows.copy_within(at..board.count, at + 1);
+            board.rows[at] = entry.row;
+            board.count += 1;
+            Entry { kind: Entry::TAKE_OUT, ..entry }
+        }
+        _ => Entry { row: replace(&mut board.rows[at], entry.row), ..entry },
+    }
 }
 
 /// In the caller's storage.
@@ -56,10 +74,71 @@ pub fn add_in_place(board: &mut Board, row: Row) -> u32 {
     if board.count == MAX_ROWS {
         return 3;
     }
-    note(board, Entry { kind: Entry::ADD, at: board.count, row });
+    let entry = Entry { kind: Entry::TAKE_OUT, at: board.count as u32, row };
+    keep(board, entry, MAX_KEPT);
+    board.undone = 0;
     board.rows[board.count] = row;
     board.count += 1;
     0
+}
+
+#[inline(never)]
+pub fn undo_in_place(board: &mut Board) -> u32 {
+    if !sound(board) {
+        return 1;
+    }
+    if board.kept == 0 {
+        return 5;
+    }
+    board.kept -= 1;
+    board.undone = (board.undone + 1).min(MAX_UNDONE);
+    let entry = board.journal[board.kept];
+    board.journal[board.kept] = carry_out(board, entry);
+    0
+}
+
+#[inline(never)]
+pub fn redo_in_place(board: &mut Board) -> u32 {
+    if !sound(board) {
+        return 1;
+    }
+    if board.undone == 0 {
+        return 17;
+    }
+    let entry = board.journal[board.kept];
+    let back = carry_out(board, entry);
+    keep(board, back, MAX_KEPT + board.undone);
+    board.undone -= 1;
+    0
+}
+
+/// By value, as the library has it.
+#[inline(never)]
+pub fn add(mut board: Board, row: Row) -> Edited {
+    let refusal = add_in_place(&mut board, row);
+    Edited { board, refusal }
+}
+
+#[inline(never)]
+pub fn undo(mut board: Board) -> Edited {
+    let refusal = undo_in_place(&mut board);
+    Edited { board, refusal }
+}
+
+#[inline(never)]
+pub fn redo(mut board: Board) -> Edited {
+    let refusal = redo_in_place(&mut board);
+    Edited { board, refusal }
+}
+
+/// A call through the C face that does nothing: what handing a board over and back costs by itself.
+pub fn nothing(board: &Board) -> Edited {
+    unchanged(*board)
+}
+
+#[inline(never)]
+extern "C" fn unchanged(board: Board) -> Edited {
+    Edited { board, refusal: 0 }
 }
 
 /// The rows of a board in classes, and the children of each class.

@@ -1,11 +1,14 @@
 //! Times of the library and of the same jobs in plain Rust (`differential::baseline`), taken in turn in one run, best of several.
-//! Prints one line for each job, then the same node lists by recursive queries of the databases that are installed.
+//! Prints one line for each job, then how many copies of the board an edit's time beyond that of a call that does nothing comes to,
+//! then the same node lists by recursive queries of the databases that are installed.
 #![forbid(unsafe_code)]
 
 use differential::baseline;
 use differential::databases::DATABASES;
-use flowpewter::{index_len, sys, totals_len, Board, Entry, Row, MAX_NODES};
+use flowpewter::sys::{self, Edited};
+use flowpewter::{index_len, totals_len, Board, Entry, Row, JOURNAL_PLACES, MAX_NODES};
 use std::hint::black_box;
+use std::mem::size_of;
 use std::time::Instant;
 
 /// Two numerals on each of 15 levels, each row below both of the level above: 65,534 nodes of 58 rows.
@@ -62,7 +65,7 @@ fn board(rows: &[Row]) -> Board {
     board.rows[..rows.len()].copy_from_slice(rows);
     board.count = rows.len();
     board.kept = 256;
-    board.journal = [Entry { kind: 0, at: 0, row: rows[0] }; 256];
+    board.journal = [Entry { kind: Entry::TAKE_OUT, at: 0, row: rows[0] }; JOURNAL_PLACES];
     board
 }
 
@@ -111,33 +114,102 @@ fn builds(job: &str, rows: &[Row], code: u32, rounds: u32) -> f64 {
     times.0 / 1_000.0
 }
 
-fn edits(journal: &str, kept: usize) {
-    let board = Board { kept, ..board(&chain()[..1_000]) };
-    let work = format!("1,000 rows, {journal}");
-    let row = Row::new(3, 5, 7, 9);
-    assert_eq!(sys::add(&board, row), baseline::add(board, row));
-    let times = race(
-        1_000,
-        || {
-            black_box(sys::add(black_box(&board), row));
-        },
-        || {
-            black_box(baseline::add(*black_box(&board), row));
-        },
-    );
-    print("add, both by value", &work, times);
+/// An edit by value on both sides, then against Rust in place; answers the times by value. In place, the numbers and the
+/// two entries beside the cursor are put back before each call, so that each has the same work.
+fn edit(
+    name: &str,
+    work: &str,
+    board: Board,
+    library: impl Fn(&Board) -> Edited,
+    by_value: impl Fn(Board) -> Edited,
+    in_place: impl Fn(&mut Board) -> u32,
+) -> (f64, f64) {
+    let edited = library(&board);
+    assert_eq!(edited, by_value(board));
     let mut own = board;
-    let times = race(
+    assert_eq!(edited.refusal, in_place(&mut own));
+    assert_eq!(edited.board, own);
+
+    let library = || {
+        black_box(library(black_box(&board)));
+    };
+    let times = race(1_000, library, || {
+        black_box(by_value(*black_box(&board)));
+    });
+    print(&format!("{name}, both by value"), work, times);
+    let places = board.kept - 1..=board.kept;
+    let in_place_times = race(1_000, library, || {
+        (own.count, own.kept, own.undone) = (board.count, board.kept, board.undone);
+        own.journal[places.clone()].copy_from_slice(&board.journal[places.clone()]);
+        black_box(in_place(black_box(&mut own)));
+    });
+    print(&format!("{name}, Rust in place"), work, in_place_times);
+    times
+}
+
+fn add(work: &str, board: Board) -> (f64, f64) {
+    let row = Row::new(3, 5, 7, 9);
+    edit(
+        "add",
+        work,
+        board,
+        |board| sys::add(board, row),
+        |board| baseline::add(board, row),
+        |board| baseline::add_in_place(board, row),
+    )
+}
+
+fn undo(step: &str, work: &str, board: Board) -> (f64, f64) {
+    let name = format!("undo of a {step}");
+    edit(&name, work, board, sys::undo, baseline::undo, baseline::undo_in_place)
+}
+
+fn redo(step: &str, work: &str, board: Board) -> (f64, f64) {
+    let name = format!("redo of a {step}");
+    edit(&name, work, board, sys::redo, baseline::redo, baseline::redo_in_place)
+}
+
+/// 1,000 rows of the chain, and so many kept and undone steps, each an entry of the kind for row 500.
+fn stepped(kind: u32, kept: usize, undone: usize) -> Board {
+    let entry = Entry { kind, at: 499, row: Row::new(3, 5, 7, 9) };
+    let board = board(&chain()[..1_000]);
+    Board { kept, undone, journal: [entry; JOURNAL_PLACES], ..board }
+}
+
+/// Answers the times by value of an add, an undo and a redo with room in the journal.
+fn edits() -> [(&'static str, (f64, f64)); 3] {
+    let room = "1,000 rows, room in the journal";
+    let full = "1,000 rows, full journal";
+    let added = add(room, stepped(Entry::SET, 100, 100));
+    add(full, stepped(Entry::SET, 256, 256));
+    let undone = undo("remark", room, stepped(Entry::SET, 100, 100));
+    undo("remark", full, stepped(Entry::SET, 256, 256));
+    undo("withdrawal", room, stepped(Entry::PUT_IN, 100, 100));
+    let redone = redo("remark", room, stepped(Entry::SET, 100, 100));
+    redo("remark", full, stepped(Entry::SET, 256, 256));
+    redo("withdrawal", room, stepped(Entry::TAKE_OUT, 100, 100));
+    [("add", added), ("undo of a remark", undone), ("redo of a remark", redone)]
+}
+
+/// Answers the times of a call through the C face that does nothing, and of one copy of the board.
+fn handing_over() -> (f64, f64) {
+    let board = stepped(Entry::SET, 100, 100);
+    assert_eq!(baseline::nothing(&board), Edited { board, refusal: 0 });
+    let mut copy = board;
+    let (nothing, one) = race(
         1_000,
         || {
-            black_box(sys::add(black_box(&board), row));
+            black_box(baseline::nothing(black_box(&board)));
         },
         || {
-            (own.count, own.kept) = (1_000, kept);
-            black_box(baseline::add_in_place(black_box(&mut own), row));
+            copy = *black_box(&board);
+            black_box(&mut copy);
         },
     );
-    print("add, Rust in place", &work, times);
+    let work = format!("{} bytes", size_of::<Board>());
+    println!("| a call that does nothing, by value | {work} | | {:.2} | |", nothing / 1_000.0);
+    println!("| one copy of the board | {work} | | {:.2} | |", one / 1_000.0);
+    (nothing, one)
 }
 
 fn navigation() {
@@ -201,9 +273,16 @@ fn main() {
     builds("build, leaf roots", &leaves(), 0, 20);
     builds("build, cyclic", &cyclic(), 0, 20);
     builds("build, small", &small(), 0, 200);
-    edits("room in the journal", 100);
-    edits("full journal", 256);
+    let edit_times = edits();
+    let (nothing, copy) = handing_over();
     navigation();
+    println!();
+    println!("| time beyond a call that does nothing, in copies | library | Rust by value |");
+    println!("|---|---|---|");
+    for (name, (library, rust)) in edit_times {
+        let more = |time: f64| (time - nothing) / copy;
+        println!("| {name} | {:.1} | {:.1} |", more(library), more(rust));
+    }
     println!();
     println!("| node list | by | query, ms | query / library's build |");
     println!("|---|---|---|---|");
