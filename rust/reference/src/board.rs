@@ -261,12 +261,13 @@ impl Board {
         let entry = self.journal[self.kept];
         let list =
             carried_out(self.held(), &entry).expect("the newest undone entry of a sound board");
-        self.journal[self.kept] = inverse(self.held(), &entry);
+        let back = inverse(self.held(), &entry);
         if self.kept == MAX_KEPT {
             self.shift(self.kept + self.undone);
         } else {
             self.kept += 1;
         }
+        self.journal[self.kept - 1] = back;
         self.undone -= 1;
         self.accepted(&list)
     }
