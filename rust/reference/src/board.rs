@@ -1,7 +1,7 @@
 //! The board record, its soundness and the edits on it.
 
 use crate::machine::{Call, Machine};
-use crate::{MAX_ENTRIES, MAX_KEPT, MAX_ROWS, MAX_UNDONE};
+use crate::{JOURNAL_PLACES, MAX_KEPT, MAX_ROWS, MAX_UNDONE};
 
 /// A row of a board. Parent 0 is none; minutes are negative for a deduction.
 #[repr(C)]
@@ -45,7 +45,7 @@ pub struct Board {
     pub rows: [Row; MAX_ROWS],
     pub kept: usize,
     pub undone: usize,
-    pub journal: [Entry; MAX_ENTRIES],
+    pub journal: [Entry; JOURNAL_PLACES],
 }
 
 /// What an edit gives: its refusal (0 for none) and the board.
@@ -108,7 +108,7 @@ impl Board {
         rows: [Row::new(0, 0, 0, 0); MAX_ROWS],
         kept: 0,
         undone: 0,
-        journal: [Entry { kind: 0, at: 0, row: Row::new(0, 0, 0, 0) }; MAX_ENTRIES],
+        journal: [Entry { kind: 0, at: 0, row: Row::new(0, 0, 0, 0) }; JOURNAL_PLACES],
     };
 
     /// The rows held; of a count above 1,024 all places.

@@ -36,7 +36,7 @@ pub const MAX_KEPT: usize = 256;
 /// Most undone steps on a board.
 pub const MAX_UNDONE: usize = 256;
 /// Places for journal entries on a board.
-pub const MAX_ENTRIES: usize = MAX_KEPT + MAX_UNDONE;
+pub const JOURNAL_PLACES: usize = MAX_KEPT + MAX_UNDONE;
 /// Most nodes an index may hold.
 pub const MAX_NODES: usize = 65_535;
 /// Words in the table of contents.

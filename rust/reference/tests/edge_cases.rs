@@ -384,7 +384,7 @@ fn words_of_the_record() {
     assert_eq!(std::mem::size_of::<Entry>(), 24);
     assert_eq!(std::mem::size_of::<Board>(), 28_696);
     assert_eq!((TAKE_OUT, PUT_IN, SET), (0, 1, 2));
-    assert_eq!((MAX_KEPT, MAX_UNDONE, MAX_ENTRIES), (256, 256, 512));
+    assert_eq!((MAX_KEPT, MAX_UNDONE, JOURNAL_PLACES), (256, 256, 512));
 }
 
 /// The entries that can and that can't be carried out, each with the rows it is tried on.
