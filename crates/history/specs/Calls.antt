@@ -4,16 +4,9 @@ use mathlib.Core.List.{List, [], _∷_}
 use mir.Syntax.{w32}
 use mir.Val.{SFits}
 use Rattle.board.specs.declared.Board.{Board}
-use Rattle.board.specs.declared.Edited.{Edited}
-use Rattle.board.specs.Edits.{addOf, withdrawOf, remarkOf, undoOf}
-use Rattle.history.specs.declared.Call.{Call}
-use Rattle.history.specs.declared.Call.the-variants.{Add, Withdraw, Remark, Undo}
-
-abbrev pub edit : Board → Call → Edited
-edit b (Add r) = addOf b r
-edit b (Withdraw k) = withdrawOf b k
-edit b (Remark k minutes) = remarkOf b k minutes
-edit b Undo = undoOf b
+use Rattle.board.specs.declared.Call.{Call}
+use Rattle.board.specs.declared.Call.the-variants.{Add, Withdraw, Remark, Undo, Redo}
+use Rattle.board.specs.Edits.{edit}
 
 -- the refusal numbers of a list of calls, 0 for none; "each later call gets the board the last one returned"
 abbrev pub edits : Board → List Call → List ℕ
@@ -31,6 +24,7 @@ MinutesFit (Add r) = SFits w32 (r .minutes)
 MinutesFit (Withdraw k) = Unit {0}
 MinutesFit (Remark k minutes) = SFits w32 minutes
 MinutesFit Undo = Unit {0}
+MinutesFit Redo = Unit {0}
 
 abbrev pub AllFit : List Call → Type 0
 AllFit [] = Unit {0}

@@ -12,8 +12,8 @@ use mir.Syntax.{w32}
 use mir.Val.{ofZ}
 use borrow.Author.Tests.{eq-eqb, le-ltb, le-leb}
 use Rattle.lists.specs.Lists.{flatMap}
-use Rattle.history.specs.declared.Call.{Call}
-use Rattle.history.specs.declared.Call.the-variants.{Add, Withdraw, Remark, Undo}
+use Rattle.board.specs.declared.Call.{Call}
+use Rattle.board.specs.declared.Call.the-variants.{Add, Withdraw, Remark, Undo, Redo}
 use Rattle.history.specs.Calls.{MinutesFit, AllFit}
 use Rattle.history.specs.Encoding.{callOf, kindAt, callAt, firstCalls, decoded, allKnown, replayRefusal}
 use Rattle.history.specs.ReplayLaws.{Replays, replay-simulates}
@@ -24,6 +24,7 @@ wordsOf (Add r) = 0 ∷ r .parent ∷ r .numeral ∷ r .order ∷ ofZ w32 (r .mi
 wordsOf (Withdraw k) = 1 ∷ k ∷ 0 ∷ 0 ∷ 0 ∷ []
 wordsOf (Remark k minutes) = 2 ∷ k ∷ ofZ w32 minutes ∷ 0 ∷ 0 ∷ []
 wordsOf Undo = 3 ∷ 0 ∷ 0 ∷ 0 ∷ 0 ∷ []
+wordsOf Redo = 4 ∷ 0 ∷ 0 ∷ 0 ∷ 0 ∷ []
 
 abbrev pub encoded : List Call → List ℕ
 encoded calls = flatMap wordsOf calls
@@ -36,24 +37,28 @@ head-call (Add r) cs f = ap (λ (m : ℤ). Add (record { parent = r .parent; num
 head-call (Withdraw k) cs f = refl
 head-call (Remark k m) cs f = ap (λ (x : ℤ). Remark k x) (toZ-ofZ f)
 head-call Undo cs f = refl
+head-call Redo cs f = refl
 
-head-kind : (c : Call) (cs : List Call) → kindAt (encoded (c ∷ cs)) 0 ≤ 3
+head-kind : (c : Call) (cs : List Call) → kindAt (encoded (c ∷ cs)) 0 ≤ 4
 head-kind (Add r) cs = omega arith
 head-kind (Withdraw k) cs = omega arith
 head-kind (Remark k m) cs = omega arith
 head-kind Undo cs = omega arith
+head-kind Redo cs = omega arith
 
 skip : (c : Call) (cs : List Call) (j : ℕ) → getD (encoded (c ∷ cs)) (suc (suc (suc (suc (suc j))))) 0 ≡ getD (encoded cs) j 0
 skip (Add r) cs j = refl
 skip (Withdraw k) cs j = refl
 skip (Remark k m) cs j = refl
 skip Undo cs j = refl
+skip Redo cs j = refl
 
 five : (c : Call) (cs : List Call) → length (encoded (c ∷ cs)) ≡ suc (suc (suc (suc (suc (length (encoded cs))))))
 five (Add r) cs = refl
 five (Withdraw k) cs = refl
 five (Remark k m) cs = refl
 five Undo cs = refl
+five Redo cs = refl
 
 word-later : (c : Call) (cs : List Call) (i k : ℕ) → getD (encoded (c ∷ cs)) (suc i * 5 + k) 0 ≡ getD (encoded cs) (i * 5 + k) 0
 word-later c cs i k =
@@ -82,7 +87,7 @@ call-encoded [] i f h = absurd (omega arith)
 call-encoded (c ∷ cs) zero f h = head-call c cs (f .0)
 call-encoded (c ∷ cs) (suc i) f h = call-later c cs i ∙ call-encoded cs i (f .1) (omega arith)
 
-kind-encoded : (cs : List Call) (i : ℕ) → i < length cs → kindAt (encoded cs) i ≤ 3
+kind-encoded : (cs : List Call) (i : ℕ) → i < length cs → kindAt (encoded cs) i ≤ 4
 kind-encoded [] i h = absurd (omega arith)
 kind-encoded (c ∷ cs) zero h = head-kind c cs
 kind-encoded (c ∷ cs) (suc i) h = omega (arith, kind-later c cs i, kind-encoded cs i (omega arith))
@@ -96,7 +101,7 @@ first-encoded cs (suc n) f h =
 
 known-encoded : (cs : List Call) (n : ℕ) → n ≤ length cs → allKnown (encoded cs) n ≡ true
 known-encoded cs zero h = refl
-known-encoded cs (suc n) h = simp (known-encoded cs n (omega arith), le-leb (kindAt (encoded cs) n) 3 (kind-encoded cs n h))
+known-encoded cs (suc n) h = simp (known-encoded cs n (omega arith), le-leb (kindAt (encoded cs) n) 4 (kind-encoded cs n h))
 
 calls-encoded : (cs : List Call) → length (encoded cs) / 5 ≡ length cs
 calls-encoded cs = omega (arith, length-encoded cs)

@@ -7,19 +7,19 @@ use lib.Dec.{eqb, leb, ltb}
 use mir.Syntax.{w32}
 use mir.Val.{toZ}
 use Rattle.lists.specs.Lists.{front}
+use Rattle.board.specs.declared.Call.{Call}
+use Rattle.board.specs.declared.Call.the-variants.{Add, Withdraw, Remark, Undo, Redo}
 use Rattle.board.specs.Edits.{emptyOf}
-use Rattle.history.specs.declared.Call.{Call}
-use Rattle.history.specs.declared.Call.the-variants.{Add, Withdraw, Remark, Undo}
 use Rattle.history.specs.declared.Replayed.{Replayed}
 use Rattle.history.specs.Machine.{answers, start}
 use Rattle.history.specs.Calls.{final}
 
 -- Kind 0 is an add of the row parent a, numeral b, order c, minutes d; 1 a withdrawal of row number a; 2 a remark of row number a with minutes b;
--- 3 an undo. Minutes are the bits of a signed number. Words that a call does not use are ignored.
+-- 3 an undo; 4 a redo. Minutes are the bits of a signed number. Words that a call does not use are ignored.
 unfoldable pub callOf : ℕ → ℕ → ℕ → ℕ → ℕ → Call
 callOf kind a b c d =
     cond (eqb kind 0) (Add (record { parent = a; numeral = b; order = c; minutes = toZ w32 d }))
-    (cond (eqb kind 1) (Withdraw a) (cond (eqb kind 2) (Remark a (toZ w32 b)) Undo))
+    (cond (eqb kind 1) (Withdraw a) (cond (eqb kind 2) (Remark a (toZ w32 b)) (cond (eqb kind 3) Undo Redo)))
 
 -- call i, counted from 0, stands in words 5 i to 5 i + 4
 abbrev pub kindAt : List ℕ → ℕ → ℕ
@@ -39,7 +39,7 @@ decoded words = firstCalls words (length words / 5)
 -- each of the first n calls has a known kind
 abbrev pub allKnown : List ℕ → ℕ → Bool
 allKnown words zero = true
-allKnown words (suc n) = allKnown words n && leb (kindAt words n) 3
+allKnown words (suc n) = allKnown words n && leb (kindAt words n) 4
 
 -- 101: no whole number of calls; 102: a call of unknown kind; 103: fewer than one word for each refusal number; else 0.
 -- They are the replay's own and none of the paper's.

@@ -2,9 +2,12 @@ pub mod Machine
 pub mod Calls
 pub mod Simulation
 pub mod Encoding
+pub mod State
 pub mod StateLaws
+pub mod InverseLaws
 pub mod StepLaws
 pub mod SimulationLaws
 pub mod ReplayLaws
 pub mod EncodedLaws
 pub mod UndoLaws
+pub mod RedoLaws

@@ -13,13 +13,13 @@ use Rattle.lists.specs.Lists.{front}
 use Rattle.lists.specs.StoreLaws.{front-push}
 use Rattle.board.specs.declared.Board.{Board}
 use Rattle.board.specs.declared.Edited.{Edited}
-use Rattle.board.specs.Edits.{emptyOf, rowsOf, soundOf}
-use Rattle.history.specs.declared.Call.{Call}
-use Rattle.history.specs.Calls.{edit, edits, final}
+use Rattle.board.specs.declared.Call.{Call}
+use Rattle.board.specs.Edits.{emptyOf, rowsOf, soundOf, edit}
+use Rattle.history.specs.Calls.{edits, final}
 use Rattle.history.specs.Encoding.{kindAt, callAt, firstCalls, decoded, allKnown, replayRefusal, replayedOf, refusalsOf}
 use Rattle.history.specs.declared.Replayed.{Replayed}
 use Rattle.history.specs.Machine.{answers, after, start}
-use Rattle.history.specs.SimulationLaws.{final-refusals, final-rows, final-kept, final-sound}
+use Rattle.history.specs.SimulationLaws.{final-refusals, final-rows, final-kept, final-undone, final-sound}
 
 -- ---- one more call at the end
 
@@ -95,6 +95,7 @@ pub record Replays (words lent : List ℕ) : Type 0 where
   pub refusals : refusalsOf words lent ≡ front (answers start (decoded words)) lent
   pub rows : rowsOf (replayedOf words (length lent) .board) ≡ after start (decoded words) .rows
   pub kept : replayedOf words (length lent) .board .kept ≡ length (after start (decoded words) .earlier)
+  pub undone : replayedOf words (length lent) .board .undone ≡ length (after start (decoded words) .later)
   pub sound : soundOf (replayedOf words (length lent) .board) ≡ true
 
 -- What `replay` answers and writes, by its contract, where it refuses nothing
@@ -107,17 +108,18 @@ replay-simulates words lent e =
       refusals = rw t;
       rows = rw t (final-rows (decoded words));
       kept = rw t (final-kept (decoded words));
+      undone = rw t (final-undone (decoded words));
       sound = rw t (final-sound (decoded words));
     }
 
 -- ---- kinds
 
-pub known-not : (words : List ℕ) (n i : ℕ) → i < n → leb (kindAt words i) 3 ≡ false → allKnown words n ≡ false
+pub known-not : (words : List ℕ) (n i : ℕ) → i < n → leb (kindAt words i) 4 ≡ false → allKnown words n ≡ false
 known-not words zero i h e = absurd (omega arith)
 known-not words (suc n) i h e = go (λ k. known-not words n i k e) (ltb i n) refl
   where
-    go : (i < n → allKnown words n ≡ false) → (t : Bool) → ltb i n ≡ t → (allKnown words n && leb (kindAt words n) 3) ≡ false
+    go : (i < n → allKnown words n ≡ false) → (t : Bool) → ltb i n ≡ t → (allKnown words n && leb (kindAt words n) 4) ≡ false
     go before true q = rw (before (ltb-true i n q))
     go before false q =
         let s : i ≡ n = omega (arith, ltb-false i n q) in
-        rw (ap (λ (k : ℕ). leb (kindAt words k) 3) (sym s) ∙ e) (and-false (allKnown words n))
+        rw (ap (λ (k : ℕ). leb (kindAt words k) 4) (sym s) ∙ e) (and-false (allKnown words n))

@@ -6,14 +6,15 @@ use mathlib.Core.Bool.{true}
 use mathlib.Core.List.{List, [], _∷_, reverse}
 use lib.ListN.{length, take, length-replicate, length-reverse}
 use Rattle.board.specs.declared.Board.{Board}
+use Rattle.board.specs.declared.Call.{Call}
 use Rattle.board.specs.Journal.{blank, noEntry}
-use Rattle.board.specs.Edits.{rowsOf, entriesOf, emptyOf, soundOf}
-use Rattle.history.specs.declared.Call.{Call}
+use Rattle.board.specs.Edits.{rowsOf, keptOf, undoneOf, emptyOf, soundOf, edit}
 use Rattle.history.specs.Machine.{Machine, Answer, answers, after, start}
-use Rattle.history.specs.Calls.{edit, edits, final}
+use Rattle.history.specs.Calls.{edits, final}
 use Rattle.history.specs.Simulation.{Simulates}
-use Rattle.history.specs.StateLaws.{stateOf, Valid}
-use Rattle.history.specs.StepLaws.{step, some, valid-sound, length-earlier}
+use Rattle.history.specs.State.{stateOf}
+use Rattle.history.specs.StateLaws.{Valid}
+use Rattle.history.specs.StepLaws.{step, some, left, valid-sound, length-lists}
 
 -- ---- from any valid board
 
@@ -40,11 +41,13 @@ pub valid-empty : Valid emptyOf
 unfolding emptyOf
 valid-empty = record {
   places = length-replicate 1024 blank;
-  slots = length-replicate 256 noEntry;
+  slots = length-replicate 512 noEntry;
   small = omega arith;
   few = omega arith;
+  brief = omega arith;
   good = refl;
-  chain = tt;
+  behind = tt;
+  ahead = tt;
 }
 
 state-empty : stateOf emptyOf ≡ start
@@ -69,9 +72,16 @@ pub final-kept : (cs : List Call) → final emptyOf cs .kept ≡ length (after s
 final-kept cs =
     let b : Board = final emptyOf cs in
     sym (some b (final-valid cs))
-    ∙ sym (length-reverse (entriesOf b))
-    ∙ sym (length-earlier (rowsOf b) (reverse (entriesOf b)))
+    ∙ sym (length-reverse (keptOf b))
+    ∙ sym (length-lists (rowsOf b) (reverse (keptOf b)))
     ∙ ap (λ (m : Machine). length (m .earlier)) (final-state cs)
+
+pub final-undone : (cs : List Call) → final emptyOf cs .undone ≡ length (after start cs .later)
+final-undone cs =
+    let b : Board = final emptyOf cs in
+    sym (left b (final-valid cs))
+    ∙ sym (length-lists (rowsOf b) (undoneOf b))
+    ∙ ap (λ (m : Machine). length (m .later)) (final-state cs)
 
 pub final-refusals : (cs : List Call) → edits emptyOf cs ≡ answers start cs
 final-refusals cs = refusals-from cs emptyOf valid-empty ∙ ap (λ (m : Machine). answers m cs) state-empty
@@ -81,6 +91,8 @@ simulation cs = record {
   refusals = final-refusals cs;
   rows = final-rows cs;
   kept = final-kept cs;
+  undone = final-undone cs;
   rows-after = λ n. final-rows (take n cs);
   kept-after = λ n. final-kept (take n cs);
+  undone-after = λ n. final-undone (take n cs);
 }

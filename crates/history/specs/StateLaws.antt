@@ -1,4 +1,4 @@
--- A board as a state of the plain machine, and the boards that calls lead to: what only the laws need. Assumes nothing.
+-- The boards that calls lead to: what only the laws need. Assumes nothing.
 use Prim.Native.Nat.{_≤_}
 use mathlib.Core.Path.{_≡_}
 use mathlib.Core.Bool.{true}
@@ -7,29 +7,21 @@ use lib.ListN.{length}
 use Rattle.board.specs.declared.Row.{Row}
 use Rattle.board.specs.declared.Entry.{Entry}
 use Rattle.board.specs.declared.Board.{Board}
-use Rattle.board.specs.Journal.{allNumbered, undone, undoable}
-use Rattle.board.specs.Edits.{rowsOf, entriesOf}
-use Rattle.history.specs.Machine.{Machine}
+use Rattle.board.specs.Journal.{allNumbered, carried, doable}
+use Rattle.board.specs.Edits.{rowsOf, keptOf, undoneOf}
 
--- the row lists that undoing the entries, newest first, leads through
-abbrev pub earlierLists : List Row → List Entry → List (List Row)
-earlierLists rows [] = []
-earlierLists rows (e ∷ entries) = undone e rows ∷ earlierLists (undone e rows) entries
+-- each entry can be carried out on the rows that carrying out those before it leads to
+abbrev pub AllDoable : List Row → List Entry → Type 0
+AllDoable rows [] = Unit {0}
+AllDoable rows (e ∷ entries) = (doable e rows ≡ true) × AllDoable (carried e rows) entries
 
--- "How journal entries are stored is free; they must give K"
-abbrev pub stateOf : Board → Machine
-stateOf b = record { rows = rowsOf b; earlier = earlierLists (rowsOf b) (reverse (entriesOf b)) }
-
--- each entry can be undone on the rows that undoing those before it leads to
-abbrev pub AllUndoable : List Row → List Entry → Type 0
-AllUndoable rows [] = Unit {0}
-AllUndoable rows (e ∷ entries) = (undoable e rows ≡ true) × AllUndoable (undone e rows) entries
-
--- what every board that calls lead to is: its arrays are whole, and each kept step can be undone, one after the other
+-- what every board that calls lead to is: its arrays are whole, and each kept step can be undone and each undone step redone, one after the other
 pub record Valid (b : Board) : Type 0 where
   pub places : length (b .rows) ≡ 1024
-  pub slots : length (b .journal) ≡ 256
+  pub slots : length (b .journal) ≡ 512
   pub small : b .count ≤ 1024
   pub few : b .kept ≤ 256
+  pub brief : b .undone ≤ 256
   pub good : allNumbered (rowsOf b) ≡ true
-  pub chain : AllUndoable (rowsOf b) (reverse (entriesOf b))
+  pub behind : AllDoable (rowsOf b) (reverse (keptOf b))
+  pub ahead : AllDoable (rowsOf b) (undoneOf b)

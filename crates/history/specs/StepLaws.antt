@@ -2,47 +2,70 @@
 use mathlib.Core.Path.{_≡_, refl, sym, ap, _∙_, subst}
 use Prim.Native.Nat.{ℕ, zero, suc, _+_, _-_, _≤_, _<_}
 use native.Mathlib.Omega.{arith}
-use mathlib.Core.Bool.{Bool, true, false, cond, _&&_}
-use mathlib.Core.List.{List, [], _∷_, _++_, reverse, reverse-append, reverse-cons}
-use lib.ListN.{length, take, drop, getD, set, length-append, length-drop, length-set, length-reverse}
-use lib.Seq.{take-all, take-at, drop-at, length-take-le, take-suc, split-at, set-split, set-set, set-getD, getD-take}
+use mathlib.Core.Bool.{Bool, true, false, cond, _||_}
+use mathlib.Core.List.{List, [], _∷_, _++_, reverse, reverse-append, reverse-cons, append-assoc}
+use lib.ListN.{length, take, drop, length-append, length-drop, length-take, length-reverse}
+use lib.Seq.{take-all, take-at, length-take-le, take-suc, drop-cons, take-append-seam, drop-append-seam}
 use lib.IntN.{ℤ}
 use lib.Dec.{eqb, leb, ltb}
-use borrow.Author.Tests.{lt-ltb, le-leb, leb-true, leb-false, ltb-true, ltb-false, eqb-true, eqb-false}
-use Rattle.lists.specs.ChoiceLaws.{and-yes, or-no}
+use borrow.Author.Tests.{le-leb, ltb-true, ltb-false, eqb-true, eqb-false}
+use Rattle.lists.specs.Lists.{front}
 use Rattle.lists.specs.StoreLaws.{take-front, length-front}
-use Rattle.lists.specs.Lists.{without, inserted}
-use Rattle.lists.specs.MoveLaws.{length-without}
 use Rattle.board.specs.declared.Row.{Row}
 use Rattle.board.specs.declared.Entry.{Entry}
 use Rattle.board.specs.declared.Board.{Board}
 use Rattle.board.specs.declared.Edited.{Edited}
-use Rattle.board.specs.Journal.{allNumbered, isThere, undone, undoable, pushed, blank, noEntry}
-use Rattle.board.specs.Edits.{rowsOf, entriesOf, newestOf, withRows, withEntries, withoutNewest, soundOf, addRefusal, addOf, rowRefusal, withdrawOf, remarkOf, remarked, undoRefusal, undoOf, refused, accepted, noRow}
-use Rattle.board.specs.Laws.{numbered-append, numbered-take, numbered-drop, numbered-mid}
-use Rattle.history.specs.declared.Call.{Call}
-use Rattle.history.specs.declared.Call.the-variants.{Add, Withdraw, Remark, Undo}
-use Rattle.history.specs.Machine.{gives, changes, goesBack, answer}
-use Rattle.history.specs.Calls.{edit}
-use Rattle.history.specs.StateLaws.{earlierLists, stateOf, AllUndoable, Valid}
+use Rattle.board.specs.declared.Call.{Call}
+use Rattle.board.specs.declared.Call.the-variants.{Add, Withdraw, Remark, Undo, Redo}
+use Rattle.board.specs.Journal.{allNumbered, carried, inverse, doable, pushed, noEntry}
+use Rattle.board.specs.Edits.{rowsOf, keptOf, undoneOf, newestOf, nextOf, made, soundOf, refused, noRow, addRefusal, rowRefusal, undoRefusal, redoRefusal, edit}
+use Rattle.board.specs.OperationLaws.{refusalBy, operation, keptAfter, undoneAfter, boardAfter, edit-refused, edit-carries, add-rows, old-row, row-there}
+use Rattle.history.specs.Machine.{Machine, gives, changes, goesBack, comesBack, answer}
+use Rattle.history.specs.State.{listsFrom, stateOf}
+use Rattle.history.specs.StateLaws.{AllDoable, Valid}
+use Rattle.history.specs.InverseLaws.{Leads, leads}
 
--- ---- fewer entries give fewer earlier lists
+-- ---- fewer entries give fewer lists
 
-earlier-take : (n : ℕ) (R : List Row) (es : List Entry) → earlierLists R (take n es) ≡ take n (earlierLists R es)
-earlier-take zero R es = refl
-earlier-take (suc n) R [] = refl
-earlier-take (suc n) R (e ∷ es) = ap (λ (K : List (List Row)). undone e R ∷ K) (earlier-take n (undone e R) es)
+lists-take : (n : ℕ) (R : List Row) (es : List Entry) → listsFrom R (take n es) ≡ take n (listsFrom R es)
+lists-take zero R es = refl
+lists-take (suc n) R [] = refl
+lists-take (suc n) R (e ∷ es) = ap (λ (L : List (List Row)). carried e R ∷ L) (lists-take n (carried e R) es)
 
-undoable-take : (n : ℕ) (R : List Row) (es : List Entry) → AllUndoable R es → AllUndoable R (take n es)
-undoable-take zero R es h = tt
-undoable-take (suc n) R [] h = tt
-undoable-take (suc n) R (e ∷ es) h = (h .0, undoable-take n (undone e R) es (h .1))
+doable-take : (n : ℕ) (R : List Row) (es : List Entry) → AllDoable R es → AllDoable R (take n es)
+doable-take zero R es h = tt
+doable-take (suc n) R [] h = tt
+doable-take (suc n) R (e ∷ es) h = (h .0, doable-take n (carried e R) es (h .1))
 
-pub length-earlier : (R : List Row) (es : List Entry) → length (earlierLists R es) ≡ length es
-length-earlier R [] = refl
-length-earlier R (e ∷ es) = ap suc (length-earlier (undone e R) es)
+pub length-lists : (R : List Row) (es : List Entry) → length (listsFrom R es) ≡ length es
+length-lists R [] = refl
+length-lists R (e ∷ es) = ap suc (length-lists (carried e R) es)
 
--- ---- the journal, newest first
+-- ---- at most 256 entries that lead, one after the other, from the rows R through the lists L
+
+record Through (R : List Row) (es : List Entry) (L : List (List Row)) : Type 0 where
+  most : length es ≤ 256
+  all : AllDoable R es
+  lists : listsFrom R es ≡ L
+
+through-none : (R : List Row) → Through R [] []
+through-none R = record { most = omega arith; all = tt; lists = refl }
+
+-- one entry more in front, which leads from R′ back to R; the last is dropped beyond 256
+through-more : (R R′ : List Row) (i : Entry) → Leads R i R′ → (es : List Entry) (L : List (List Row)) → Through R es L → Through R′ (take 256 (i ∷ es)) (take 256 (R ∷ L))
+through-more R R′ i l es L t = record {
+  most = rw (length-take 256 (i ∷ es)) (omega arith);
+  all = (l .able, subst (λ (r : List Row). AllDoable r (take 255 es)) (sym (l .back)) (doable-take 255 R es (t .all)));
+  lists =
+      ap (λ (r : List Row). r ∷ listsFrom r (take 255 es)) (l .back)
+      ∙ ap (λ (K : List (List Row)). R ∷ K) (lists-take 255 R es ∙ ap (λ (K : List (List Row)). take 255 K) (t .lists));
+}
+
+-- the entries after the first
+through-rest : (R : List Row) (e : Entry) (es : List Entry) (L : List (List Row)) → Through R (e ∷ es) L → Through (carried e R) es (listsFrom (carried e R) es)
+through-rest R e es L t = record { most = omega (arith, t .most); all = t .all .1; lists = refl }
+
+-- ---- the kept entries, newest first
 
 -- the oldest is given up
 reverse-rest : {A : Type 0} (J : List A) → length J ≡ 256 → reverse (drop 1 J) ≡ take 255 (reverse J)
@@ -51,7 +74,7 @@ reverse-rest {A} (x ∷ xs) h =
     let l : length xs ≡ 255 = omega arith in
     sym (ap (λ (r : List A). take 255 r) (reverse-cons x xs) ∙ take-at (reverse xs) (x ∷ []) 255 (length-reverse xs ∙ l))
 
-reverse-pushed : (J : List Entry) (e : Entry) → length J ≤ 256 → reverse (pushed J e) ≡ e ∷ take 255 (reverse J)
+reverse-pushed : (J : List Entry) (e : Entry) → length J ≤ 256 → reverse (pushed J e) ≡ take 256 (e ∷ reverse J)
 unfolding pushed
 reverse-pushed J e h = go (ltb (length J) 256) refl where
   go : (t : Bool) → ltb (length J) 256 ≡ t → reverse (cond t (J ++ (e ∷ [])) (drop 1 J ++ (e ∷ []))) ≡ e ∷ take 255 (reverse J)
@@ -63,85 +86,103 @@ reverse-pushed J e h = go (ltb (length J) 256) refl where
       let l : 256 ≤ length J = ltb-false (length J) 256 q in
       reverse-append (drop 1 J) (e ∷ []) ∙ ap (λ (r : List Entry). e ∷ r) (reverse-rest J (omega arith))
 
-length-pushed : (J : List Entry) (e : Entry) → length J ≤ 256 → length (pushed J e) ≤ 256
-unfolding pushed
-length-pushed J e h = go (ltb (length J) 256) refl where
-  go : (t : Bool) → ltb (length J) 256 ≡ t → length (cond t (J ++ (e ∷ [])) (drop 1 J ++ (e ∷ []))) ≤ 256
-  go true q = rw (length-append J (e ∷ [])) (omega (arith, ltb-true (length J) 256 q))
-  go false q = rw (length-append (drop 1 J) (e ∷ []), length-drop 1 J) (omega (arith, ltb-false (length J) 256 q))
+-- ---- the two parts of the tape
+
+first-part : (K F j : List Entry) → take (length K) (front (K ++ F) j) ≡ K
+unfolding front
+first-part K F j =
+    ap (λ (l : List Entry). take (length K) l) (append-assoc K F (drop (length (K ++ F)) j)) ∙ take-append-seam K (F ++ drop (length (K ++ F)) j)
+
+second-part : (K F j : List Entry) → take (length F) (drop (length K) (front (K ++ F) j)) ≡ F
+unfolding front
+second-part K F j =
+    ap (λ (l : List Entry). take (length F) (drop (length K) l)) (append-assoc K F (drop (length (K ++ F)) j))
+    ∙ ap (λ (l : List Entry). take (length F) l) (drop-append-seam K (F ++ drop (length (K ++ F)) j))
+    ∙ take-append-seam F (drop (length (K ++ F)) j)
+
+-- ---- a valid board
+
+none-or : (n : ℕ) (t : Bool) → ((n ≡ 0 → ⊥) → t ≡ true) → (eqb n 0 || t) ≡ true
+none-or n t h = go (eqb n 0) refl where
+  go : (s : Bool) → eqb n 0 ≡ s → (s || t) ≡ true
+  go true q = refl
+  go false q = h (eqb-false n 0 q)
 
 module _ (b : Board) (v : Valid b) where
   pub many : length (rowsOf b) ≡ b .count
   many = length-take-le (b .count) (b .rows) (omega (arith, v .places, v .small))
 
-  pub some : length (entriesOf b) ≡ b .kept
+  pub some : length (keptOf b) ≡ b .kept
   some = length-take-le (b .kept) (b .journal) (omega (arith, v .slots, v .few))
 
-  -- the newest entry, with those before it
-  newest-first : (b .kept ≡ 0 → ⊥) → reverse (entriesOf b) ≡ newestOf b ∷ reverse (take (b .kept - 1) (b .journal))
+  pub left : length (undoneOf b) ≡ b .undone
+  left = length-take-le (b .undone) (drop (b .kept) (b .journal)) (rw (length-drop (b .kept) (b .journal)) (omega (arith, v .slots, v .few, v .brief)))
+
+  through-kept : Through (rowsOf b) (reverse (keptOf b)) (stateOf b .earlier)
+  through-kept = record { most = rw (length-reverse (keptOf b), some) (v .few); all = v .behind; lists = refl }
+
+  through-undone : Through (rowsOf b) (undoneOf b) (stateOf b .later)
+  through-undone = record { most = rw left (v .brief); all = v .ahead; lists = refl }
+
+  -- the newest kept entry, with those before it
+  newest-first : (b .kept ≡ 0 → ⊥) → reverse (keptOf b) ≡ newestOf b ∷ reverse (take (b .kept - 1) (b .journal))
   newest-first z =
       let s : suc (b .kept - 1) ≡ b .kept = omega (arith, z) in
       ap (λ (n : ℕ). reverse (take n (b .journal))) (sym s)
       ∙ ap {B = List Entry} reverse (take-suc (b .journal) (b .kept - 1) noEntry (omega (arith, v .slots, v .few, z)))
       ∙ reverse-append (take (b .kept - 1) (b .journal)) (newestOf b ∷ [])
 
-  can : (z : b .kept ≡ 0 → ⊥) → AllUndoable (rowsOf b) (newestOf b ∷ reverse (take (b .kept - 1) (b .journal)))
-  can z = subst (λ (es : List Entry). AllUndoable (rowsOf b) es) (newest-first z) (v .chain)
+  -- the newest undone entry, with those after it
+  next-first : (b .undone ≡ 0 → ⊥) → undoneOf b ≡ nextOf b ∷ drop 1 (undoneOf b)
+  next-first z =
+      let s : suc (b .undone - 1) ≡ b .undone = omega (arith, z) in
+      let c : undoneOf b ≡ nextOf b ∷ take (b .undone - 1) (drop (suc (b .kept)) (b .journal)) =
+      ap (λ (n : ℕ). take n (drop (b .kept) (b .journal))) (sym s)
+      ∙ ap (λ (l : List Entry). take (suc (b .undone - 1)) l) (drop-cons (b .journal) (b .kept) noEntry (omega (arith, v .slots, v .few))) in
+      c ∙ ap (λ (l : List Entry). nextOf b ∷ drop 1 l) (sym c)
 
   pub valid-sound : soundOf b ≡ true
   unfolding soundOf
-  valid-sound = go (eqb (b .kept) 0) refl where
-    go : (t : Bool) → eqb (b .kept) 0 ≡ t → soundOf b ≡ true
-    go true q = simp (le-leb (b .count) 1024 (v .small), le-leb (b .kept) 256 (v .few), v .good, q)
-    go false q = simp (le-leb (b .count) 1024 (v .small), le-leb (b .kept) 256 (v .few), v .good, q) (can (eqb-false (b .kept) 0 q) .0)
+  valid-sound =
+      simp (
+        le-leb (b .count) 1024 (v .small),
+        le-leb (b .kept) 256 (v .few),
+        le-leb (b .undone) 256 (v .brief),
+        v .good,
+        none-or (b .kept) (doable (newestOf b) (rowsOf b)) (λ z. subst (λ (es : List Entry). AllDoable (rowsOf b) es) (newest-first z) (v .behind) .0),
+        none-or (b .undone) (doable (nextOf b) (rowsOf b)) (λ z. subst (λ (es : List Entry). AllDoable (rowsOf b) es) (next-first z) (v .ahead) .0),
+      )
 
-  -- ---- an accepted edit that e tells, to the rows R
-  module _ (e : Entry) (R : List Row) (short : length R ≤ 1024) (well : allNumbered R ≡ true) (is : isThere e (length R) ≡ true) (back : undone e R ≡ rowsOf b) where
-    J : List Entry
-    J = pushed (entriesOf b) e
+  -- ---- the board that an accepted call makes
+  module _ (R : List Row) (K F : List Entry) (earlier later : List (List Row)) (short : length R ≤ 1024) (well : allNumbered R ≡ true)
+      (behind : Through R (reverse K) earlier) (ahead : Through R F later) where
+    rows-made : rowsOf (made b R K F) ≡ R
+    rows-made = take-front R (b .rows)
 
-    b′ : Board
-    b′ = withRows (withEntries b J) R
+    kept-made : keptOf (made b R K F) ≡ K
+    kept-made = first-part K F (b .journal)
 
-    few′ : length J ≤ 256
-    unfolding J
-    few′ = length-pushed (entriesOf b) e (omega (arith, some, v .few))
+    undone-made : undoneOf (made b R K F) ≡ F
+    undone-made = second-part K F (b .journal)
 
-    rows′ : rowsOf b′ ≡ R
-    unfolding b′
-    rows′ = take-front R (b .rows)
+    valid-made : Valid (made b R K F)
+    valid-made =
+        let k : length K ≤ 256 = rw (length-reverse K) at (behind .most) in
+        record {
+          places = length-front R (b .rows) (omega (arith, v .places)) ∙ v .places;
+          slots = length-front (K ++ F) (b .journal) (rw (length-append K F) (omega (arith, v .slots, ahead .most))) ∙ v .slots;
+          small = short;
+          few = k;
+          brief = ahead .most;
+          good = ap allNumbered rows-made ∙ well;
+          behind = subst (λ (r : List Row). AllDoable r (reverse (keptOf (made b R K F)))) (sym rows-made) (subst (λ (es : List Entry). AllDoable R (reverse es)) (sym kept-made) (behind .all));
+          ahead = subst (λ (r : List Row). AllDoable r (undoneOf (made b R K F))) (sym rows-made) (subst (λ (es : List Entry). AllDoable R es) (sym undone-made) (ahead .all));
+        }
 
-    entries′ : reverse (entriesOf b′) ≡ e ∷ take 255 (reverse (entriesOf b))
-    unfolding b′ J
-    entries′ = ap {B = List Entry} reverse (take-front J (b .journal)) ∙ reverse-pushed (entriesOf b) e (omega (arith, some, v .few))
-
-    able : undoable e R ≡ true
-    unfolding undoable
-    able = simp (is, back, v .good, le-leb (length (rowsOf b)) 1024 (omega (arith, many, v .small)))
-
-    chain′ : AllUndoable R (e ∷ take 255 (reverse (entriesOf b)))
-    chain′ = (able, subst (λ (r : List Row). AllUndoable r (take 255 (reverse (entriesOf b)))) (sym back) (undoable-take 255 (rowsOf b) (reverse (entriesOf b)) (v .chain)))
-
-    pub valid-change : Valid (withRows (withEntries b (pushed (entriesOf b) e)) R)
-    unfolding b′ J
-    valid-change = record {
-      places = length-front R (b .rows) (omega (arith, v .places)) ∙ v .places;
-      slots = length-front J (b .journal) (omega (arith, v .slots, few′)) ∙ v .slots;
-      small = short;
-      few = few′;
-      good = ap allNumbered rows′ ∙ well;
-      chain = subst (λ (r : List Row). AllUndoable r (reverse (entriesOf b′))) (sym rows′) (subst (λ (es : List Entry). AllUndoable R es) (sym entries′) chain′);
-    }
-
-    pub state-change : changes (stateOf b) R ≡ gives 0 (stateOf (withRows (withEntries b (pushed (entriesOf b) e)) R))
-    unfolding b′ J
-    state-change =
-        let h : earlierLists (rowsOf b′) (reverse (entriesOf b′)) ≡ take 256 (rowsOf b ∷ earlierLists (rowsOf b) (reverse (entriesOf b))) =
-        ap (λ (r : List Row). earlierLists r (reverse (entriesOf b′))) rows′
-        ∙ ap (λ (es : List Entry). earlierLists R es) entries′
-        ∙ ap (λ (r : List Row). r ∷ earlierLists r (take 255 (reverse (entriesOf b)))) back
-        ∙ ap (λ (K : List (List Row)). rowsOf b ∷ K) (earlier-take 255 (rowsOf b) (reverse (entriesOf b))) in
-        λ i. record { refusal = 0; machine = record { rows = sym rows′ i; earlier = sym h i } }
+    state-made : stateOf (made b R K F) ≡ record { rows = R; earlier = earlier; later = later }
+    state-made =
+        (λ i. record { rows = rows-made i; earlier = listsFrom (rows-made i) (reverse (kept-made i)); later = listsFrom (rows-made i) (undone-made i) })
+        ∙ (λ i. record { rows = R; earlier = behind .lists i; later = ahead .lists i })
 
 -- ---- one call
 
@@ -155,173 +196,101 @@ step-by b c x q h w = record {
   valid = subst (λ (y : Edited). Valid (y .board)) (sym q) w;
 }
 
-nonzero : (x : ℕ) → eqb x 0 ≡ false → leb 1 x ≡ true
-nonzero x q = le-leb 1 x (omega (arith, eqb-false x 0 q))
-
 module _ (b : Board) (v : Valid b) where
+  refuses : (c : Call) (n : ℕ) → 0 < n → refusalBy b c ≡ n → answer (stateOf b) c ≡ gives n (stateOf b) → Step b c
+  refuses c n p e h =
+      step-by b c (refused n b) (edit-refused b c (λ z. omega (arith, e, z)) ∙ ap (λ (k : ℕ). refused k b) e) h v
+
+  module _ (c : Call) (e : refusalBy b c ≡ 0) where
+    led : Leads (rowsOf b) (inverse (operation b c) (rowsOf b)) (carried (operation b c) (rowsOf b))
+    led = leads (operation b c) (rowsOf b) (omega (arith, many b v, v .small)) (v .good) (edit-carries b (v .places) c e .can)
+
+    accepts : (earlier later : List (List Row)) → Through (carried (operation b c) (rowsOf b)) (reverse (keptAfter b c)) earlier
+        → Through (carried (operation b c) (rowsOf b)) (undoneAfter b c) later
+        → answer (stateOf b) c ≡ gives 0 (record { rows = carried (operation b c) (rowsOf b); earlier = earlier; later = later })
+        → Step b c
+    accepts earlier later k f h =
+        step-by b c (record { refusal = 0; board = boardAfter b c }) (edit-carries b (v .places) c e .answer)
+        (h ∙ ap (λ (m : Machine). gives 0 m) (sym (state-made b v (carried (operation b c) (rowsOf b)) (keptAfter b c) (undoneAfter b c) earlier later (led .short) (led .well) k f)))
+        (valid-made b v (carried (operation b c) (rowsOf b)) (keptAfter b c) (undoneAfter b c) earlier later (led .short) (led .well) k f)
+
+    -- the rows that it leaves are at the head of the earlier lists, or of the later ones
+    through-pushed : Through (carried (operation b c) (rowsOf b)) (reverse (pushed (keptOf b) (inverse (operation b c) (rowsOf b)))) (take 256 (rowsOf b ∷ stateOf b .earlier))
+    through-pushed =
+        subst (λ (es : List Entry). Through (carried (operation b c) (rowsOf b)) es (take 256 (rowsOf b ∷ stateOf b .earlier)))
+        (sym (reverse-pushed (keptOf b) (inverse (operation b c) (rowsOf b)) (omega (arith, some b v, v .few))))
+        (through-more (rowsOf b) (carried (operation b c) (rowsOf b)) (inverse (operation b c) (rowsOf b)) led (reverse (keptOf b)) (stateOf b .earlier) (through-kept b v))
+
+    through-left : Through (carried (operation b c) (rowsOf b)) (take 256 (inverse (operation b c) (rowsOf b) ∷ undoneOf b)) (take 256 (rowsOf b ∷ stateOf b .later))
+    through-left = through-more (rowsOf b) (carried (operation b c) (rowsOf b)) (inverse (operation b c) (rowsOf b)) led (undoneOf b) (stateOf b .later) (through-undone b v)
+
   -- ---- add
-  module _ (r : Row) where
-    entry-add : Entry
-    entry-add = record { kind = 0; at = b .count; row = r }
+  step-add : (r : Row) (t₂ t₃ : Bool) → eqb (r .numeral) 0 ≡ t₂ → leb 1024 (b .count) ≡ t₃ → Step b (Add r)
+  unfolding addRefusal
+  step-add r true t₃ q₂ q₃ = refuses (Add r) 2 (omega arith) (simp (valid-sound b v, q₂)) (simp q₂)
+  step-add r false true q₂ q₃ = refuses (Add r) 3 (omega arith) (simp (valid-sound b v, q₂, q₃)) (simp (q₂, many b v, q₃))
+  step-add r false false q₂ q₃ =
+      let e : addRefusal b r ≡ 0 = simp (valid-sound b v, q₂, q₃) in
+      accepts (Add r) e (take 256 (rowsOf b ∷ stateOf b .earlier)) [] (through-pushed (Add r) e) (through-none (carried (operation b (Add r)) (rowsOf b)))
+      (simp (q₂, many b v, q₃) (ap (λ (R : List Row). changes (stateOf b) R) (sym (add-rows b (v .places) (valid-sound b v) r))))
 
-    length-add : length (rowsOf b ++ (r ∷ [])) ≡ b .count + 1
-    length-add = length-append (rowsOf b) (r ∷ []) ∙ ap (λ (n : ℕ). n + 1) (many b v)
-
-    back-add : undone entry-add (rowsOf b ++ (r ∷ [])) ≡ rowsOf b
-    unfolding undone entry-add
-    back-add = take-at (rowsOf b) (r ∷ []) (length (rowsOf b ++ (r ∷ [])) - 1) (omega (arith, length-add, many b v))
-
-    there-add : isThere entry-add (length (rowsOf b ++ (r ∷ []))) ≡ true
-    unfolding isThere entry-add
-    there-add = lt-ltb 0 (length (rowsOf b ++ (r ∷ []))) (omega (arith, length-add))
-
-    step-add : (t₂ t₃ : Bool) → eqb (r .numeral) 0 ≡ t₂ → leb 1024 (b .count) ≡ t₃ → Step b (Add r)
-    unfolding addOf addRefusal entry-add
-    step-add true t₃ q₂ q₃ = step-by b (Add r) (refused 2 b) (simp (valid-sound b v, q₂)) (simp q₂) v
-    step-add false true q₂ q₃ = step-by b (Add r) (refused 3 b) (simp (valid-sound b v, q₂, q₃)) (simp (q₂, many b v, q₃)) v
-    step-add false false q₂ q₃ =
-        let s : length (rowsOf b ++ (r ∷ [])) ≤ 1024 = omega (arith, length-add, leb-false 1024 (b .count) q₃) in
-        let w : allNumbered (rowsOf b ++ (r ∷ [])) ≡ true = simp (numbered-append (rowsOf b) (r ∷ []), v .good, nonzero (r .numeral) q₂) in
-        step-by b (Add r) (accepted b entry-add (rowsOf b ++ (r ∷ []))) (simp (valid-sound b v, q₂, q₃))
-        (simp (q₂, many b v, q₃) (state-change b v entry-add (rowsOf b ++ (r ∷ [])) s w there-add back-add))
-        (valid-change b v entry-add (rowsOf b ++ (r ∷ [])) s w there-add back-add)
-
-  -- ---- a row that is there
-  module _ (k : ℕ) (inside : k < b .count) where
-    old : Row
-    old = getD (b .rows) k blank
-
-    in-rows : k < length (rowsOf b)
-    in-rows = omega (arith, many b v)
-
-    old-is : getD (b .rows) k blank ≡ getD (rowsOf b) k blank
-    old-is = sym (getD-take (b .count) (b .rows) k blank inside)
-
-    old-good : leb 1 (getD (rowsOf b) k blank .numeral) ≡ true
-    old-good =
-        sym (numbered-mid k (suc k) (rowsOf b) (getD (rowsOf b) k blank) (v .good))
-        ∙ ap allNumbered (sym (split-at (rowsOf b) k blank in-rows))
-        ∙ v .good
-
-    entry-withdraw : Entry
-    entry-withdraw = record { kind = 1; at = k; row = getD (b .rows) k blank }
-
-    short-withdraw : length (without (rowsOf b) k) ≡ b .count - 1
-    short-withdraw = length-without (b .rows) (b .count) k inside (omega (arith, v .places, v .small))
-
-    there-withdraw : isThere entry-withdraw (length (without (rowsOf b) k)) ≡ true
-    unfolding isThere entry-withdraw
-    there-withdraw = le-leb k (length (without (rowsOf b) k)) (omega (arith, short-withdraw))
-
-    well-withdraw : allNumbered (without (rowsOf b) k) ≡ true
-    unfolding without
-    well-withdraw = simp (numbered-append (take k (rowsOf b)) (drop (suc k) (rowsOf b)), numbered-take k (rowsOf b) (v .good), numbered-drop (suc k) (rowsOf b) (v .good))
-
-    back-withdraw : undone entry-withdraw (without (rowsOf b) k) ≡ rowsOf b
-    unfolding undone entry-withdraw inserted without
-    back-withdraw =
-        let l : length (take k (rowsOf b)) ≡ k = length-take-le k (rowsOf b) (omega (arith, in-rows)) in
-        rw (take-at (take k (rowsOf b)) (drop (suc k) (rowsOf b)) k l, drop-at (take k (rowsOf b)) (drop (suc k) (rowsOf b)) k l, old-is)
-        (sym (split-at (rowsOf b) k blank in-rows))
-
-    entry-remark : Entry
-    entry-remark = record { kind = 2; at = k; row = getD (b .rows) k blank }
-
-    module _ (m : ℤ) where
-      new : Row
-      new = remarked (getD (b .rows) k blank) m
-
-      short-remark : length (set (rowsOf b) k new) ≡ b .count
-      short-remark = length-set (rowsOf b) k new ∙ many b v
-
-      there-remark : isThere entry-remark (length (set (rowsOf b) k new)) ≡ true
-      unfolding isThere entry-remark
-      there-remark = lt-ltb k (length (set (rowsOf b) k new)) (omega (arith, short-remark))
-
-      well-remark : allNumbered (set (rowsOf b) k new) ≡ true
-      unfolding new
-      well-remark =
-          ap allNumbered (set-split (rowsOf b) k new in-rows)
-          ∙ numbered-mid k (suc k) (rowsOf b) new (v .good)
-          ∙ ap (λ (x : Row). leb 1 (x .numeral)) old-is
-          ∙ old-good
-
-      back-remark : undone entry-remark (set (rowsOf b) k new) ≡ rowsOf b
-      unfolding undone entry-remark
-      back-remark = rw (set-set (rowsOf b) k new (getD (b .rows) k blank), old-is) (set-getD (rowsOf b) k blank)
-
-module _ (b : Board) (v : Valid b) where
   -- ---- withdraw and remark
   module _ (k : ℕ) where
     none-there : (t : Bool) → noRow (b .count) k ≡ t → noRow (length (rowsOf b)) k ≡ t
     none-there t q = ap (λ (n : ℕ). noRow n k) (many b v) ∙ q
 
-    inside : noRow (b .count) k ≡ false → k - 1 < b .count
-    inside q = omega (arith, eqb-false k 0 (or-no (eqb k 0) (ltb (b .count) k) q .0), ltb-false (b .count) k (or-no (eqb k 0) (ltb (b .count) k) q .1))
+    row-refused : (t : Bool) → noRow (b .count) k ≡ t → rowRefusal b k ≡ cond t 4 0
+    unfolding rowRefusal
+    row-refused t q = rw (valid-sound b v, q)
 
     step-withdraw : (t : Bool) → noRow (b .count) k ≡ t → Step b (Withdraw k)
-    unfolding withdrawOf rowRefusal entry-withdraw
-    step-withdraw true q = step-by b (Withdraw k) (refused 4 b) (rw (valid-sound b v, q)) (rw (none-there true q)) v
+    unfolding carried
+    step-withdraw true q = refuses (Withdraw k) 4 (omega arith) (row-refused true q) (rw (none-there true q))
     step-withdraw false q =
-        let i = inside q in
-        let s : length (without (rowsOf b) (k - 1)) ≤ 1024 = omega (arith, short-withdraw b v (k - 1) i, v .small) in
-        step-by b (Withdraw k) (accepted b (entry-withdraw b v (k - 1) i) (without (rowsOf b) (k - 1))) (rw (valid-sound b v, q))
-        (rw (none-there false q) (state-change b v (entry-withdraw b v (k - 1) i) (without (rowsOf b) (k - 1)) s (well-withdraw b v (k - 1) i) (there-withdraw b v (k - 1) i) (back-withdraw b v (k - 1) i)))
-        (valid-change b v (entry-withdraw b v (k - 1) i) (without (rowsOf b) (k - 1)) s (well-withdraw b v (k - 1) i) (there-withdraw b v (k - 1) i) (back-withdraw b v (k - 1) i))
+        let e = row-refused false q in
+        accepts (Withdraw k) e (take 256 (rowsOf b ∷ stateOf b .earlier)) [] (through-pushed (Withdraw k) e) (through-none (carried (operation b (Withdraw k)) (rowsOf b)))
+        (rw (none-there false q))
 
     step-remark : (m : ℤ) (t : Bool) → noRow (b .count) k ≡ t → Step b (Remark k m)
-    unfolding remarkOf rowRefusal entry-remark new
-    step-remark m true q = step-by b (Remark k m) (refused 4 b) (rw (valid-sound b v, q)) (rw (none-there true q)) v
+    unfolding carried
+    step-remark m true q = refuses (Remark k m) 4 (omega arith) (row-refused true q) (rw (none-there true q))
     step-remark m false q =
-        let i = inside q in
-        let e = entry-remark b v (k - 1) i in
-        let R : List Row = set (rowsOf b) (k - 1) (new b v (k - 1) i m) in
-        let s : length R ≤ 1024 = omega (arith, short-remark b v (k - 1) i m, v .small) in
-        step-by b (Remark k m) (accepted b e R) (rw (valid-sound b v, q))
-        (rw (none-there false q, ← old-is b v (k - 1) i) (state-change b v e R s (well-remark b v (k - 1) i m) (there-remark b v (k - 1) i m) (back-remark b v (k - 1) i m)))
-        (valid-change b v e R s (well-remark b v (k - 1) i m) (there-remark b v (k - 1) i m) (back-remark b v (k - 1) i m))
+        let e = row-refused false q in
+        let i = row-there (b .count) k q in
+        accepts (Remark k m) e (take 256 (rowsOf b ∷ stateOf b .earlier)) [] (through-pushed (Remark k m) e) (through-none (carried (operation b (Remark k m)) (rowsOf b)))
+        (rw (none-there false q, old-row b (v .places) (valid-sound b v) (k - 1) (omega (arith, i .0, i .1))))
 
   -- ---- undo
-  u : List Row
-  u = undone (newestOf b) (rowsOf b)
-
-  module _ (z : b .kept ≡ 0 → ⊥) where
-    u-short : length u ≤ 1024
-    unfolding undoable u
-    u-short = leb-true (length u) 1024 (and-yes (leb (length u) 1024) (allNumbered u) (and-yes (isThere (newestOf b) (length (rowsOf b))) (leb (length u) 1024 && allNumbered u) (can b v z .0) .1) .0)
-
-    u-well : allNumbered u ≡ true
-    unfolding undoable u
-    u-well = and-yes (leb (length u) 1024) (allNumbered u) (and-yes (isThere (newestOf b) (length (rowsOf b))) (leb (length u) 1024 && allNumbered u) (can b v z .0) .1) .1
-
-    valid-undo : Valid (withRows (withoutNewest b) (undone (newestOf b) (rowsOf b)))
-    unfolding u
-    valid-undo = record {
-      places = length-front u (b .rows) (omega (arith, v .places, u-short)) ∙ v .places;
-      slots = v .slots;
-      small = u-short;
-      few = omega (arith, v .few);
-      good = ap allNumbered (take-front u (b .rows)) ∙ u-well;
-      chain = subst (λ (r : List Row). AllUndoable r (reverse (take (b .kept - 1) (b .journal)))) (sym (take-front u (b .rows))) (can b v z .1);
-    }
-
-    state-undo : goesBack (stateOf b) (earlierLists (rowsOf b) (reverse (entriesOf b))) ≡ gives 0 (stateOf (withRows (withoutNewest b) (undone (newestOf b) (rowsOf b))))
-    unfolding u
-    state-undo =
-        ap (λ (es : List Entry). goesBack (stateOf b) (earlierLists (rowsOf b) es)) (newest-first b v z)
-        ∙ ap (λ (r : List Row). gives 0 (record { rows = r; earlier = earlierLists r (reverse (take (b .kept - 1) (b .journal))) })) (sym (take-front u (b .rows)))
-
   step-undo : (t : Bool) → eqb (b .kept) 0 ≡ t → Step b Undo
-  unfolding undoOf undoRefusal
+  unfolding undoRefusal
   step-undo true q =
-      let e : entriesOf b ≡ [] = ap (λ (n : ℕ). take n (b .journal)) (eqb-true (b .kept) 0 q) in
-      step-by b Undo (refused 5 b) (simp (valid-sound b v, q)) (ap (λ (J : List Entry). goesBack (stateOf b) (earlierLists (rowsOf b) (reverse J))) e) v
+      let h : keptOf b ≡ [] = ap (λ (n : ℕ). take n (b .journal)) (eqb-true (b .kept) 0 q) in
+      refuses Undo 5 (omega arith) (simp (valid-sound b v, q)) (ap (λ (J : List Entry). goesBack (stateOf b) (listsFrom (rowsOf b) (reverse J))) h)
   step-undo false q =
-      let z = eqb-false (b .kept) 0 q in
-      step-by b Undo (record { refusal = 0; board = withRows (withoutNewest b) (undone (newestOf b) (rowsOf b)) }) (simp (valid-sound b v, q)) (state-undo z) (valid-undo z)
+      let e : undoRefusal b ≡ 0 = simp (valid-sound b v, q) in
+      let h = newest-first b v (eqb-false (b .kept) 0 q) in
+      let K : List Entry = reverse (take (b .kept - 1) (b .journal)) in
+      let t = subst (λ (es : List Entry). Through (rowsOf b) es (stateOf b .earlier)) h (through-kept b v) in
+      accepts Undo e (listsFrom (carried (newestOf b) (rowsOf b)) K) (take 256 (rowsOf b ∷ stateOf b .later)) (through-rest (rowsOf b) (newestOf b) K (stateOf b .earlier) t) (through-left Undo e)
+      (ap (λ (es : List Entry). goesBack (stateOf b) (listsFrom (rowsOf b) es)) h)
+
+  -- ---- redo
+  step-redo : (t : Bool) → eqb (b .undone) 0 ≡ t → Step b Redo
+  unfolding redoRefusal
+  step-redo true q =
+      let h : undoneOf b ≡ [] = ap (λ (n : ℕ). take n (drop (b .kept) (b .journal))) (eqb-true (b .undone) 0 q) in
+      refuses Redo 17 (omega arith) (simp (valid-sound b v, q)) (ap (λ (J : List Entry). comesBack (stateOf b) (listsFrom (rowsOf b) J)) h)
+  step-redo false q =
+      let e : redoRefusal b ≡ 0 = simp (valid-sound b v, q) in
+      let h = next-first b v (eqb-false (b .undone) 0 q) in
+      let F : List Entry = drop 1 (undoneOf b) in
+      let t = subst (λ (es : List Entry). Through (rowsOf b) es (stateOf b .later)) h (through-undone b v) in
+      accepts Redo e (take 256 (rowsOf b ∷ stateOf b .earlier)) (listsFrom (carried (nextOf b) (rowsOf b)) F) (through-pushed Redo e) (through-rest (rowsOf b) (nextOf b) F (stateOf b .later) t)
+      (ap (λ (es : List Entry). comesBack (stateOf b) (listsFrom (rowsOf b) es)) h)
 
   pub step : (c : Call) → Step b c
-  step (Add r) = step-add b v r (eqb (r .numeral) 0) (leb 1024 (b .count)) refl refl
+  step (Add r) = step-add r (eqb (r .numeral) 0) (leb 1024 (b .count)) refl refl
   step (Withdraw k) = step-withdraw k (noRow (b .count) k) refl
   step (Remark k m) = step-remark k m (noRow (b .count) k) refl
   step Undo = step-undo (eqb (b .kept) 0) refl
+  step Redo = step-redo (eqb (b .undone) 0) refl

@@ -6,18 +6,11 @@ ghost use mir.Syntax.{w32};
 ghost use mir.Val.{toZ};
 ghost use Rattle.lists.specs.Lists.{front};
 ghost use Rattle.board.specs.Edits.{emptyOf};
-ghost use Rattle.history.specs.Calls.{edit, edits, final};
+ghost use Rattle.history.specs.Calls.{edits, final};
 ghost use Rattle.history.specs.Encoding.{callOf, callAt, firstCalls, allKnown, replayRefusal, replayedOf, refusalsOf};
 use board::Board;
-use board::Edited;
+use board::Call;
 use board::Row;
-
-pub enum Call {
-    Add(Row),
-    Withdraw(usize),
-    Remark(usize, i32),
-    Undo,
-}
 
 // What `replay` answers: its own refusal number (101 to 103), or 0, the number of calls and the board after them.
 #[repr(C)]
@@ -25,17 +18,6 @@ pub struct Replayed {
     pub refusal: u32,
     pub calls: usize,
     pub board: Board,
-}
-
-pub fn apply(board: Board, call: Call) -> Edited
-    ensures { λ r. ⌜ r ≡ edit board call ⌝ }
-{
-    match call {
-        Call::Add(row) => board.add(row),
-        Call::Withdraw(k) => board.withdraw(k),
-        Call::Remark(k, minutes) => board.remark(k, minutes),
-        Call::Undo => board.undo(),
-    }
 }
 
 // The signed number that has these bits.
@@ -67,7 +49,10 @@ fn decode(kind: u32, a: u32, b: u32, c: u32, d: u32) -> Call
     if kind == 2 {
         return Call::Remark(a as usize, signed(b));
     }
-    Call::Undo
+    if kind == 3 {
+        return Call::Undo;
+    }
+    Call::Redo
 }
 
 // Call i of the words.
@@ -92,7 +77,7 @@ fn known(words: &[u32], n: usize) -> bool
 {
     let mut i: usize = 0;
     while i < n {
-        if 3 < lists::get(words, i * 5) {
+        if 4 < lists::get(words, i * 5) {
             return false;
         }
         i += 1;
@@ -125,7 +110,7 @@ fn run(words: &[u32], n: usize, refusals: &mut [u32]) -> Board
     let mut board = Board::EMPTY;
     let mut i: usize = 0;
     while i < n {
-        let edited = apply(board, call_at(words, i));
+        let edited = board.edit(call_at(words, i));
         refusals[i] = edited.refusal;
         board = edited.board;
         i += 1;

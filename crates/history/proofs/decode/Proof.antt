@@ -4,8 +4,8 @@ use borrow.Author.Tests.{eq-eqb, ne-eqb}
 use mathlib.Core.Path.{ap, _∙_}
 use lib.IntN.{ℤ}
 use mir.Syntax.{w32}
-use Rattle.history.specs.declared.Call.the-variants.{Add, Remark}
 use mir.Facts.{toZ-ofZ}
+use Rattle.board.specs.declared.Call.the-variants.{Add, Remark}
 use Rattle.history.specs.Encoding.{callOf}
 use Rattle.history.proofs.decode.Statement.{statement}
 use Rattle.history.proofs.decode.Tie as tie
@@ -37,8 +37,12 @@ returns-3 c =
 
 returns-4 : tie.Need-returns-4
 unfolding callOf
-returns-4 c = simp (ne-eqb _ _ (c .before .before .if1 .left), ne-eqb _ _ (c .before .if2 .left), ne-eqb _ _ (c .if3 .left))
+returns-4 c = simp (ne-eqb _ _ (c .before .before .before .if1 .left), ne-eqb _ _ (c .before .before .if2 .left), ne-eqb _ _ (c .before .if3 .left), eq-eqb _ _ (c .if4 .taken))
+
+returns-5 : tie.Need-returns-5
+unfolding callOf
+returns-5 c = simp (ne-eqb _ _ (c .before .before .before .if1 .left), ne-eqb _ _ (c .before .before .if2 .left), ne-eqb _ _ (c .before .if3 .left), ne-eqb _ _ (c .if4 .left))
 
 pub decode-spec : {M : Type 1} → statement M
 decode-spec =
-    tie.close (tie.spec signed-requires returns returns-2 signed-requires-2 returns-3 returns-4)
+    tie.close (tie.spec signed-requires returns returns-2 signed-requires-2 returns-3 returns-4 returns-5)

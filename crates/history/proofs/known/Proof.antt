@@ -31,8 +31,8 @@ returns : tie.Need-returns Inv-loop μ-loop
 returns c =
     let a = c .before .before .before .before .before .args in
     let l = c .before .before .before .loop in
-    let k : 3 < kindAt (now (a .words)) (l .i) = subst (λ (m : ℕ). 3 < m) (c .before .get .ensures) (c .if1 .taken) in
-    sym (known-not (now (a .words)) (a .n) (l .i) (c .before .before .loop-test .taken) (lt-leb (kindAt (now (a .words)) (l .i)) 3 k))
+    let k : 4 < kindAt (now (a .words)) (l .i) = subst (λ (m : ℕ). 4 < m) (c .before .get .ensures) (c .if1 .taken) in
+    sym (known-not (now (a .words)) (a .n) (l .i) (c .before .before .loop-test .taken) (lt-leb (kindAt (now (a .words)) (l .i)) 4 k))
 
 add-i : tie.Need-add-i Inv-loop μ-loop
 add-i c = search needs
@@ -44,8 +44,8 @@ loop-again : tie.Need-loop-again Inv-loop μ-loop
 loop-again c =
     let a = c .before .before .before .before .before .args in
     let l = c .before .before .before .loop in
-    let k : kindAt (now (a .words)) (l .i) ≤ 3 = subst (λ (m : ℕ). m ≤ 3) (c .before .get .ensures) (c .if1 .left) in
-    (omega arith, rw add-one (simp (l .inv .1, le-leb (kindAt (now (a .words)) (l .i)) 3 k)))
+    let k : kindAt (now (a .words)) (l .i) ≤ 4 = subst (λ (m : ℕ). m ≤ 4) (c .before .get .ensures) (c .if1 .left) in
+    (omega arith, rw add-one (simp (l .inv .1, le-leb (kindAt (now (a .words)) (l .i)) 4 k)))
 
 returns-2 : tie.Need-returns-2 Inv-loop μ-loop
 returns-2 c =
