@@ -13,8 +13,8 @@ use mir.Val.{SFits}
 use Rattle.lists.specs.Lists.{_∈_}
 use Rattle.board.specs.declared.Row.{Row}
 use Rattle.board.specs.declared.Board.{Board}
+use Rattle.board.specs.declared.Call.{Call}
 use Rattle.board.specs.Edits.{emptyOf, rowsOf, soundOf}
-use Rattle.history.specs.declared.Call.{Call}
 use Rattle.history.specs.Machine.{after, start}
 use Rattle.history.specs.Calls.{final, AllFit}
 use Rattle.history.specs.Simulation.{Simulates}
@@ -114,7 +114,8 @@ UnsoundBuild b = soundOf b ≡ false → (code : ℕ) (depth : Depth) (rule : St
 
 -- ---- demand 3
 
--- "Demand 3 is a single claim about the whole list of calls"; R is the plain machine's rows after them. `AllFit`: the calls' minutes are i32
+-- "Demand 3 is a single claim about the whole list of calls"; R is the plain machine's rows after them. `AllFit`: the calls' minutes are i32.
+-- "The lists of calls whose order and sums are guaranteed may from now on hold redo as well"
 pub record Guarantee (cs : List Call) : Type 0 where
   pub edits : Simulates cs
   pub build : BuildOn (final emptyOf cs) (after start cs .rows) (AllFit cs)

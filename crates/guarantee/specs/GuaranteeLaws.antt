@@ -14,9 +14,9 @@ use Rattle.lists.specs.MemberLaws.{increasing-filter, numbers-rising}
 use Rattle.lists.specs.StoreLaws.{front-is}
 use Rattle.board.specs.declared.Row.{Row}
 use Rattle.board.specs.declared.Board.{Board}
+use Rattle.board.specs.declared.Call.{Call}
 use Rattle.board.specs.Edits.{emptyOf, rowsOf, soundOf}
 use Rattle.board.specs.Laws.{sound-count}
-use Rattle.history.specs.declared.Call.{Call}
 use Rattle.history.specs.Calls.{final, AllFit}
 use Rattle.history.specs.SimulationLaws.{simulation, final-rows, final-sound}
 use Rattle.options.specs.declared.Depth.{Depth}

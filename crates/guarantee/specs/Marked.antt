@@ -9,9 +9,9 @@ use lib.ListN.{replicate}
 use Rattle.lists.specs.Lists.{numbers}
 use Rattle.board.specs.declared.Row.{Row}
 use Rattle.board.specs.declared.Board.{Board}
+use Rattle.board.specs.declared.Call.{Call}
+use Rattle.board.specs.declared.Call.the-variants.{Add, Withdraw, Undo}
 use Rattle.board.specs.Edits.{emptyOf, rowsOf}
-use Rattle.history.specs.declared.Call.{Call}
-use Rattle.history.specs.declared.Call.the-variants.{Add, Withdraw, Undo}
 use Rattle.history.specs.Calls.{edits, final}
 use Rattle.options.specs.declared.Depth.{Depth}
 use Rattle.options.specs.declared.Depth.the-variants.{None, Limit}

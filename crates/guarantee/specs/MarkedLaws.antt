@@ -8,9 +8,9 @@ use lib.IntN.{ℤ, pos, negsuc}
 use lib.ListN.{length, replicate}
 use Rattle.lists.specs.Lists.{sort, insert, numbers, without, front}
 use Rattle.board.specs.declared.Row.{Row}
+use Rattle.board.specs.declared.Call.{Call}
+use Rattle.board.specs.declared.Call.the-variants.{Withdraw, Undo}
 use Rattle.board.specs.Edits.{emptyOf, rowsOf}
-use Rattle.history.specs.declared.Call.{Call}
-use Rattle.history.specs.declared.Call.the-variants.{Withdraw, Undo}
 use Rattle.history.specs.Machine.{after, start}
 use Rattle.history.specs.Calls.{final}
 use Rattle.history.specs.SimulationLaws.{final-rows, final-sound, final-refusals}

@@ -11,27 +11,37 @@ use lib.ListN.{length, getD, set, take, drop}
 use Rattle.lists.specs.Lists.{_∈_, without}
 use Rattle.lists.specs.MemberLaws.{append-out, take-in, drop-in, set-out}
 use Rattle.board.specs.declared.Row.{Row}
+use Rattle.board.specs.declared.Call.{Call}
+use Rattle.board.specs.declared.Call.the-variants.{Add, Withdraw, Remark, Undo, Redo}
 use Rattle.board.specs.Journal.{blank}
 use Rattle.board.specs.Edits.{noRow, remarked}
-use Rattle.history.specs.declared.Call.{Call}
-use Rattle.history.specs.declared.Call.the-variants.{Add, Withdraw, Remark, Undo}
-use Rattle.history.specs.Machine.{Machine, Answer, gives, changes, goesBack, answer, after, start}
+use Rattle.history.specs.Machine.{Machine, Answer, gives, changes, goesBack, comesBack, answer, after, start}
 use Rattle.history.specs.Calls.{MinutesFit, AllFit}
 use Rattle.guarantee.specs.Guarantee.{RowsFit}
 
+abbrev ListsFit : List (List Row) → Type 0
+ListsFit L = (l : List Row) → l ∈ L → RowsFit l
+
 abbrev MachineFits : Machine → Type 0
-MachineFits m = RowsFit (m .rows) × ((l : List Row) → l ∈ m .earlier → RowsFit l)
+MachineFits m = RowsFit (m .rows) × ListsFit (m .earlier) × ListsFit (m .later)
+
+one-more-list-fits : (R : List Row) (L : List (List Row)) → RowsFit R → ListsFit L → ListsFit (take 256 (R ∷ L))
+one-more-list-fits R L h k l i = ⊎-elim (λ e. subst RowsFit (sym e) h) (λ j. k l j) (take-in 256 (R ∷ L) l i)
 
 either-fits : (t : Bool) (a b : Answer) → MachineFits (a .machine) → MachineFits (b .machine) → MachineFits (cond t a b .machine)
 either-fits true a b h k = h
 either-fits false a b h k = k
 
 changes-fits : (m : Machine) (rows : List Row) → MachineFits m → RowsFit rows → MachineFits (changes m rows .machine)
-changes-fits m rows h k = (k, (λ l i. ⊎-elim (λ e. subst RowsFit (sym e) (h .0)) (λ j. h .1 l j) (take-in 256 (m .rows ∷ m .earlier) l i)))
+changes-fits m rows h k = (k, one-more-list-fits (m .rows) (m .earlier) (h .0) (h .1), λ l i. absurd i)
 
-back-fits : (m : Machine) (K : List (List Row)) → MachineFits m → ((l : List Row) → l ∈ K → RowsFit l) → MachineFits (goesBack m K .machine)
-back-fits m [] h k = h
-back-fits m (rows ∷ earlier) h k = (k rows (inl refl), (λ l i. k l (inr i)))
+undo-fits : (m : Machine) (K : List (List Row)) → MachineFits m → ListsFit K → MachineFits (goesBack m K .machine)
+undo-fits m [] h k = h
+undo-fits m (rows ∷ earlier) h k = (k rows (inl refl), (λ l i. k l (inr i)), one-more-list-fits (m .rows) (m .later) (h .0) (h .2))
+
+redo-fits : (m : Machine) (F : List (List Row)) → MachineFits m → ListsFit F → MachineFits (comesBack m F .machine)
+redo-fits m [] h k = h
+redo-fits m (rows ∷ later) h k = (k rows (inl refl), one-more-list-fits (m .rows) (m .earlier) (h .0) (h .1), λ l i. k l (inr i))
 
 without-fits : (R : List Row) (k : ℕ) → RowsFit R → RowsFit (without R k)
 unfolding without
@@ -58,7 +68,8 @@ step-fits m (Remark k minutes) h f =
     marked : RowsFit (set (m .rows) (k - 1) new)
     marked x i =
         ⊎-elim (λ e. subst (λ (y : Row). SFits w32 (y .minutes)) (sym e) f) (λ j. h .0 x j) (set-out (m .rows) (k - 1) new x i)
-step-fits m Undo h f = back-fits m (m .earlier) h (h .1)
+step-fits m Undo h f = undo-fits m (m .earlier) h (h .1)
+step-fits m Redo h f = redo-fits m (m .later) h (h .2)
 
 after-fits : (cs : List Call) (m : Machine) → MachineFits m → AllFit cs → MachineFits (after m cs)
 after-fits [] m h f = h
@@ -66,4 +77,4 @@ after-fits (c ∷ cs) m h f = after-fits cs (answer m c .machine) (step-fits m c
 
 -- the rows R after the list
 pub rows-fit : (cs : List Call) → AllFit cs → RowsFit (after start cs .rows)
-rows-fit cs f = after-fits cs start ((λ r i. absurd i), (λ l i. absurd i)) f .0
+rows-fit cs f = after-fits cs start ((λ r i. absurd i), (λ l i. absurd i), (λ l i. absurd i)) f .0

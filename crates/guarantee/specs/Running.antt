@@ -9,7 +9,7 @@ use lib.IntN.{ℤ, pos}
 use lib.ListN.{length}
 use Rattle.lists.specs.Lists.{front}
 use Rattle.board.specs.declared.Row.{Row}
-use Rattle.history.specs.declared.Call.{Call}
+use Rattle.board.specs.declared.Call.{Call}
 use Rattle.history.specs.declared.Replayed.{Replayed}
 use Rattle.history.specs.Machine.{answers, after, start}
 use Rattle.history.specs.Calls.{AllFit}
@@ -30,6 +30,7 @@ notReplayed number =
       replayed = number;
       calls = 0;
       kept = 0;
+      undone = 0;
       count = 0;
       built = record { refusal = number; nodes = 0; left = 0 };
       listed = record { refusal = number; len = 0 };
@@ -56,6 +57,7 @@ module _ (done : Replayed) (code : ℕ) (depth : Depth) (starts : Row → Bool) 
           replayed = done .refusal;
           calls = done .calls;
           kept = done .board .kept;
+          undone = done .board .undone;
           count = done .board .count;
           built = builtOf (done .board) code depth starts (length index) (length totals);
           listed = descendantsAnswer left rank lower upper out;
@@ -69,6 +71,7 @@ pub record Demand3 (cs : List Call) (refusals : List ℕ) (code : ℕ) (depth : 
   pub calls : answer .calls ≡ length cs
   pub edits : refusals' ≡ front (answers start cs) refusals
   pub kept : answer .kept ≡ length (after start cs .earlier)
+  pub undone : answer .undone ≡ length (after start cs .later)
   pub count : answer .count ≡ length (after start cs .rows)
   pub build : PathBuild (after start cs .rows) code depth (startRule rule list) (AllFit cs) (answer .built) index index' totals totals'
   pub listed : answer .built .refusal ≡ 0 → Descendants (build .W) rank lower upper out (answer .listed) out'

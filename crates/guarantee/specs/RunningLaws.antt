@@ -14,14 +14,14 @@ use lib.ListN.{length, getD, length-take}
 use borrow.Author.Tests.{eq-eqb, ne-eqb, eqb-true}
 use Rattle.lists.specs.Lists.{front}
 use Rattle.board.specs.declared.Row.{Row}
+use Rattle.board.specs.declared.Call.{Call}
+use Rattle.board.specs.declared.Call.the-variants.{Add, Withdraw, Remark, Undo, Redo}
 use Rattle.board.specs.Edits.{emptyOf}
-use Rattle.history.specs.declared.Call.{Call}
-use Rattle.history.specs.declared.Call.the-variants.{Add, Withdraw, Remark, Undo}
 use Rattle.history.specs.declared.Replayed.{Replayed}
 use Rattle.history.specs.Machine.{answers, after, start}
 use Rattle.history.specs.Calls.{final, MinutesFit, AllFit}
 use Rattle.history.specs.Encoding.{callOf, callAt, firstCalls, decoded, replayRefusal, replayedOf, refusalsOf}
-use Rattle.history.specs.SimulationLaws.{final-rows, final-kept, final-valid}
+use Rattle.history.specs.SimulationLaws.{final-rows, final-kept, final-undone, final-valid}
 use Rattle.history.specs.ReplayLaws.{length-first, replay-simulates}
 use Rattle.options.specs.declared.Depth.{Depth}
 use Rattle.navigate.specs.declared.Listed.{Listed}
@@ -56,7 +56,7 @@ module _ (done : Replayed) (code : ℕ) (depth : Depth) (starts : Row → Bool) 
       → i ≡ indexAfter (done .board) code depth starts index (length totals)
       → t ≡ totalsAfter (done .board) code depth starts (length index) totals
       → l ≡ descendantsAnswer i rank lo hi out → o ≡ descendantsOut i rank lo hi out → s ≡ subtreeAnswer i t rank
-      → Run (record { replayed = done .refusal; calls = done .calls; kept = done .board .kept; count = done .board .count; built = b; listed = l; summed = s }) i t o
+      → Run (record { replayed = done .refusal; calls = done .calls; kept = done .board .kept; undone = done .board .undone; count = done .board .count; built = b; listed = l; summed = s }) i t o
   replayed-runs z lo hi at-lower at-upper b i t l o s eb ei et el eo es =
       let left : List ℕ = indexAfter (done .board) code depth starts index (length totals) in
       let yes : eqb (done .refusal) 0 ≡ true = eq-eqb (done .refusal) 0 z in
@@ -67,7 +67,7 @@ module _ (done : Replayed) (code : ℕ) (depth : Depth) (starts : Row → Bool) 
       let is : s ≡ subtreeAnswer left (totalsAfter (done .board) code depth starts (length index) totals) rank
       = es ∙ ap (λ (x : List ℕ). subtreeAnswer x t rank) ei ∙ ap (λ (x : List ℤ). subtreeAnswer left x rank) et in
       record {
-        answer-is = rw yes (λ k. record { replayed = done .refusal; calls = done .calls; kept = done .board .kept; count = done .board .count; built = eb k; listed = il k; summed = is k });
+        answer-is = rw yes (λ k. record { replayed = done .refusal; calls = done .calls; kept = done .board .kept; undone = done .board .undone; count = done .board .count; built = eb k; listed = il k; summed = is k });
         index-is = rw yes ei;
         totals-is = rw yes et;
         out-is = rw yes io;
@@ -127,13 +127,14 @@ word-fits n h = sfits-toZ {w = w32} {n = n} (record { fits = h })
 
 call-fits : (kind a b c d : ℕ) → b < 4294967296 → d < 4294967296 → MinutesFit (callOf kind a b c d)
 unfolding callOf
-call-fits kind a b c d h k = go (eqb kind 0) (eqb kind 1) (eqb kind 2)
+call-fits kind a b c d h k = go (eqb kind 0) (eqb kind 1) (eqb kind 2) (eqb kind 3)
   where
-    go : (t u v : Bool) → MinutesFit (cond t (Add (record { parent = a; numeral = b; order = c; minutes = toZ w32 d })) (cond u (Withdraw a) (cond v (Remark a (toZ w32 b)) Undo)))
-    go true u v = word-fits d k
-    go false true v = tt
-    go false false true = word-fits b h
-    go false false false = tt
+    go : (t u v w : Bool) → MinutesFit (cond t (Add (record { parent = a; numeral = b; order = c; minutes = toZ w32 d })) (cond u (Withdraw a) (cond v (Remark a (toZ w32 b)) (cond w Undo Redo))))
+    go true u v w = word-fits d k
+    go false true v w = tt
+    go false false true w = word-fits b h
+    go false false false true = tt
+    go false false false false = tt
 
 one-more-fits : (cs : List Call) (c : Call) → AllFit cs → MinutesFit c → AllFit (cs ++ (c ∷ []))
 one-more-fits [] c h f = (f, tt)
@@ -162,6 +163,7 @@ module _ (words refusals : List ℕ) (code : ℕ) (depth : Depth) (rule : Start)
         calls = sym (length-first words (length words / 5));
         edits = refl;
         kept = final-kept cs;
+        undone = final-undone cs;
         count = final-count cs;
         build = b;
         listed = λ z. b .navigation z .descendants rank lower upper out;

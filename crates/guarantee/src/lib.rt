@@ -10,12 +10,13 @@ use request::Built;
 use request::Start;
 use sums::Summed;
 
-// What `replay_all` answers: the replay's own refusal number (101 to 103), or 0, the number of calls, the board's earlier row lists and rows after them, and the answers of the build, the descendants and the subtree sum.
+// What `replay_all` answers: the replay's own refusal number (101 to 103), or 0, the number of calls, the board's earlier and undone row lists and rows after them, and the answers of the build, the descendants and the subtree sum.
 #[repr(C)]
 pub struct ReplayedAll {
     pub replayed: u32,
     pub calls: usize,
     pub kept: usize,
+    pub undone: usize,
     pub count: usize,
     pub built: Built,
     pub listed: Listed,
@@ -43,6 +44,7 @@ fn not_replayed(replayed: u32) -> ReplayedAll
         replayed,
         calls: 0,
         kept: 0,
+        undone: 0,
         count: 0,
         built,
         listed,
@@ -81,6 +83,7 @@ pub fn replay_all(
     let calls = done.calls;
     let board = done.board;
     let kept = board.kept;
+    let undone = board.undone;
     let count = board.count;
     let built = build::build(board, code, depth, start, list, index, totals);
     let listed = navigate::descendants(index, rank, lower, upper, out);
@@ -89,6 +92,7 @@ pub fn replay_all(
         replayed,
         calls,
         kept,
+        undone,
         count,
         built,
         listed,
