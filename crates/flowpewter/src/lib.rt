@@ -1,7 +1,7 @@
 // The calls that C and Rust link to. Each has the contract of the call that it wraps; flat types only, and a slice is a pointer and a length.
 ghost use mathlib.Core.Path.{_≡_};
 ghost use lib.ListN.{length};
-ghost use Rattle.board.specs.Edits.{emptyOf, soundOf, addOf, withdrawOf, remarkOf, undoOf};
+ghost use Rattle.board.specs.Edits.{emptyOf, soundOf, addOf, withdrawOf, remarkOf, undoOf, redoOf};
 ghost use Rattle.navigate.specs.Navigate.{descendantsAnswer, descendantsOut, siblingsAnswer, siblingsOut};
 ghost use Rattle.navigate.specs.Climb.{ancestorsAnswer, ancestorsOut};
 ghost use Rattle.sums.specs.Sums.{subtreeAnswer, pathAnswer};
@@ -87,6 +87,13 @@ pub extern "C" fn flowpewter_undo(board: Board) -> Edited
     ensures { λ r. ⌜ r ≡ undoOf board ⌝ }
 {
     board.undo()
+}
+
+#[no_mangle]
+pub extern "C" fn flowpewter_redo(board: Board) -> Edited
+    ensures { λ r. ⌜ r ≡ redoOf board ⌝ }
+{
+    board.redo()
 }
 
 #[no_mangle]
