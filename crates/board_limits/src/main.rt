@@ -1,11 +1,13 @@
 // Runs a board at its limits, on the paper's own rows and from states that are not sound, one line a case: what was done, then what came of it.
 use board::Board;
+use board::Call;
 use board::Edited;
 use board::Entry;
 use cases::answer;
 use cases::number;
 use cases::row;
 use cases::say;
+use libc::STDOUT_FILENO;
 
 fn same_entry(a: Entry, b: Entry) -> bool {
     if a.kind != b.kind {
@@ -21,7 +23,7 @@ fn same_entry(a: Entry, b: Entry) -> bool {
 
 fn same_journal(a: Board, b: Board) -> bool {
     let mut i: usize = 0;
-    while i < 256 {
+    while i < 512 {
         let x = a.journal[i];
         let y = b.journal[i];
         if !same_entry(x, y) {
@@ -38,6 +40,9 @@ fn same_board(a: Board, b: Board) -> bool {
         return false;
     }
     if a.kept != b.kept {
+        return false;
+    }
+    if a.undone != b.undone {
         return false;
     }
     if !cases::same_rows(a, b, 1024) {
@@ -60,7 +65,8 @@ fn accepted(before: u32, refusal: u32) -> u32 {
     if before < 65535 { before + 1 } else { before }
 }
 
-fn adds(start: Board, n: usize) -> AfterCalls {
+// The same call n times.
+fn repeated(start: Board, call: Call, n: usize) -> AfterCalls {
     let mut ran = AfterCalls {
         board: start,
         accepted: 0,
@@ -69,7 +75,7 @@ fn adds(start: Board, n: usize) -> AfterCalls {
     let mut i: usize = 0;
     while i < n {
         let board = ran.board;
-        let edited = board.add(row(0, 7, 1, -3));
+        let edited = board.edit(call);
         let after = edited.board;
         ran = AfterCalls {
             board: after,
@@ -81,25 +87,16 @@ fn adds(start: Board, n: usize) -> AfterCalls {
     ran
 }
 
+fn adds(start: Board, n: usize) -> AfterCalls {
+    repeated(start, Call::Add(row(0, 7, 1, -3)), n)
+}
+
 fn undos(start: Board, n: usize) -> AfterCalls {
-    let mut ran = AfterCalls {
-        board: start,
-        accepted: 0,
-        refusal: 0,
-    };
-    let mut i: usize = 0;
-    while i < n {
-        let board = ran.board;
-        let edited = board.undo();
-        let after = edited.board;
-        ran = AfterCalls {
-            board: after,
-            accepted: accepted(ran.accepted, edited.refusal),
-            refusal: edited.refusal,
-        };
-        i += 1;
-    }
-    ran
+    repeated(start, Call::Undo, n)
+}
+
+fn redos(start: Board, n: usize) -> AfterCalls {
+    repeated(start, Call::Redo, n)
 }
 
 fn limits() {
@@ -116,11 +113,78 @@ fn limits() {
     number(back.accepted);
     say(b", the last refused");
     number(back.refusal);
+    let again = redos(back.board, 257);
+    say(b"\nthen 257 redos: accepted");
+    number(again.accepted);
+    say(b", the last refused");
+    number(again.refusal);
+    let first = some.board;
+    let last = again.board;
+    say(b", the same board");
+    answer(same_board(first, last));
     say(b"\n");
 }
 
-// M8: withdraw row 2, undo, the same rows.
-fn withdraw_and_undo() {
+// A board made by hand: 256 rows, 256 kept adds and 256 undone ones.
+fn full_tape() -> Board {
+    let mut board = adds(Board::EMPTY, 256).board;
+    let mut i: usize = 0;
+    while i < 256 {
+        board.journal[i] = Entry {
+            kind: 0,
+            at: i as u32,
+            row: row(0, 7, 1, -3),
+        };
+        board.journal[i + 256] = Entry {
+            kind: 1,
+            at: (i + 256) as u32,
+            row: row(0, 8, 1, -3),
+        };
+        i += 1;
+    }
+    board.kept = 256;
+    board.undone = 256;
+    board
+}
+
+fn size(n: usize) {
+    say(b" ");
+    io::print_decimal(STDOUT_FILENO, n as u64);
+}
+
+fn state(name: &[u8], ran: AfterCalls) {
+    say(name);
+    say(b": accepted");
+    number(ran.accepted);
+    say(b", the last refused");
+    number(ran.refusal);
+    let board = ran.board;
+    say(b", rows, kept and undone");
+    size(board.count);
+    size(board.kept);
+    size(board.undone);
+    say(b"\n");
+}
+
+// Where K and F are full, undo and redo drop the last list of the other.
+fn full_tapes() {
+    let board = full_tape();
+    say(b"256 kept and 256 undone steps: sound");
+    answer(board.sound());
+    say(b"\n");
+    let on = redos(board, 257);
+    state(b"257 redos", on);
+    state(b"then 257 undos", undos(on.board, 257));
+    let back = undos(board, 257);
+    state(b"257 undos", back);
+    state(b"then 257 redos", redos(back.board, 257));
+    state(b"1 redo and 1 undo", undos(redos(board, 1).board, 1));
+    state(b"1 undo and 1 redo", redos(undos(board, 1).board, 1));
+    state(b"1 undo and 1 add", adds(undos(board, 1).board, 1));
+}
+
+// M8: withdraw row 2, undo, the same rows; redo, the rows without it.
+fn withdraw_undo_redo() {
     let before = cases::sample_board();
     let out = before.withdraw(2);
     let without = out.board;
@@ -138,6 +202,18 @@ fn withdraw_and_undo() {
     say(b", the same counts");
     answer(before.count == after.count);
     answer(before.kept == after.kept);
+    let on = after.redo();
+    let gone = on.board;
+    say(b"\nredo it: refusal");
+    number(on.refusal);
+    say(b", the same board");
+    answer(same_board(without, gone));
+    let none = gone.redo();
+    say(b"\nredo once more: refusal");
+    number(none.refusal);
+    let edited = after.remark(1, 6).board.redo();
+    say(b"\nundo, remark, redo: refusal");
+    number(edited.refusal);
     say(b"\n");
 }
 
@@ -158,11 +234,12 @@ fn unsound(name: &[u8], board: Board) {
     outcome(b", withdraw", board, board.withdraw(1));
     outcome(b", remark", board, board.remark(1, 9));
     outcome(b", undo", board, board.undo());
+    outcome(b", redo", board, board.redo());
     say(b"\n");
 }
 
-// The board with one journal entry.
-fn with_entry(start: Board, kind: u32, at: usize, numeral: u32) -> Board {
+// The board with one kept step.
+fn with_kept(start: Board, kind: u32, at: u32, numeral: u32) -> Board {
     let mut board = start;
     board.journal[0] = Entry {
         kind: kind,
@@ -170,6 +247,15 @@ fn with_entry(start: Board, kind: u32, at: usize, numeral: u32) -> Board {
         row: row(0, numeral, 1, 2),
     };
     board.kept = 1;
+    board.undone = 0;
+    board
+}
+
+// The board with that step undone.
+fn with_undone(start: Board, kind: u32, at: u32, numeral: u32) -> Board {
+    let mut board = with_kept(start, kind, at, numeral);
+    board.kept = 0;
+    board.undone = 1;
     board
 }
 
@@ -180,29 +266,58 @@ fn unsound_counts() {
     let mut deep = cases::sample_board();
     deep.kept = 257;
     unsound(b"kept 257", deep);
+    let mut wide = cases::sample_board();
+    wide.undone = 257;
+    unsound(b"undone 257", wide);
     let mut blank = cases::sample_board();
     blank.rows[3] = row(20, 0, 1, 2);
     unsound(b"row 4 with numeral 0", blank);
 }
 
-fn unsound_entries() {
+// An entry that takes out, puts in or sets: the newest kept one, then the newest undone one.
+fn unsound_kept() {
     let seven = cases::sample_board();
     let full = adds(Board::EMPTY, 1024).board;
-    unsound(b"entry of kind 3", with_entry(seven, 3, 0, 5));
+    unsound(b"kept entry of kind 3", with_kept(seven, 3, 0, 5));
+    unsound(b"kept add to no rows", with_kept(Board::EMPTY, 0, 0, 5));
+    unsound(b"kept add at place 7 of 7 rows", with_kept(seven, 0, 7, 5));
     unsound(
-        b"withdrawal from place 8 of 7 rows",
-        with_entry(seven, 1, 8, 5),
+        b"kept withdrawal from place 8 of 7 rows",
+        with_kept(seven, 1, 8, 5),
     );
-    unsound(b"withdrawal from 1024 rows", with_entry(full, 1, 0, 5));
-    unsound(b"remark of place 7 of 7 rows", with_entry(seven, 2, 7, 5));
-    unsound(b"add to no rows", with_entry(Board::EMPTY, 0, 0, 5));
-    unsound(b"withdrawal of numeral 0", with_entry(seven, 1, 7, 0));
-    unsound(b"remark of numeral 0", with_entry(seven, 2, 6, 0));
+    unsound(b"kept withdrawal from 1024 rows", with_kept(full, 1, 0, 5));
+    unsound(b"kept withdrawal of numeral 0", with_kept(seven, 1, 7, 0));
+    unsound(
+        b"kept remark of place 7 of 7 rows",
+        with_kept(seven, 2, 7, 5),
+    );
+    unsound(b"kept remark of numeral 0", with_kept(seven, 2, 6, 0));
 }
 
-// The same calls as words: two adds, a withdrawal of row 3, a withdrawal of row 1, an undo.
+fn unsound_undone() {
+    let seven = cases::sample_board();
+    let full = adds(Board::EMPTY, 1024).board;
+    unsound(b"undone entry of kind 3", with_undone(seven, 3, 0, 5));
+    unsound(
+        b"undone withdrawal from place 7 of 7 rows",
+        with_undone(seven, 0, 7, 5),
+    );
+    unsound(
+        b"undone add at place 8 of 7 rows",
+        with_undone(seven, 1, 8, 5),
+    );
+    unsound(b"undone add to 1024 rows", with_undone(full, 1, 0, 5));
+    unsound(b"undone add of numeral 0", with_undone(seven, 1, 7, 0));
+    unsound(
+        b"undone remark of place 7 of 7 rows",
+        with_undone(seven, 2, 7, 5),
+    );
+    unsound(b"undone remark of numeral 0", with_undone(seven, 2, 6, 0));
+}
+
+// The same calls as words: two adds, a withdrawal of row 3, a withdrawal of row 1, an undo, two redos, an undo.
 fn replayed() {
-    let words: [u32; 25] = [
+    let words: [u32; 40] = [
         0,
         0,
         10,
@@ -228,16 +343,31 @@ fn replayed() {
         0,
         0,
         0,
+        4,
+        0,
+        0,
+        0,
+        0,
+        4,
+        0,
+        0,
+        0,
+        0,
+        3,
+        0,
+        0,
+        0,
+        0,
     ];
-    let mut refusals: [u32; 6] = [9; 6];
+    let mut refusals: [u32; 9] = [9; 9];
     let result = history::replay(&words, &mut refusals);
     let board = result.board;
     let second = board.rows[1];
-    say(b"replay of 5 calls: refusal");
+    say(b"replay of 8 calls: refusal");
     number(result.refusal);
     say(b", refusals");
     let mut i: usize = 0;
-    while i < 6 {
+    while i < 9 {
         number(refusals[i]);
         i += 1;
     }
@@ -250,8 +380,10 @@ fn replayed() {
 
 fn main() {
     limits();
-    withdraw_and_undo();
+    full_tapes();
+    withdraw_undo_redo();
     unsound_counts();
-    unsound_entries();
+    unsound_kept();
+    unsound_undone();
     replayed();
 }
