@@ -1,16 +1,16 @@
 -- The inverse of an entry leads back: carried out after the entry, it gives the rows before it. Assumes nothing.
 use mathlib.Core.Path.{_≡_, refl, sym, ap, _∙_}
-use Prim.Native.Nat.{ℕ, suc, _+_, _-_, _≤_, _<_}
+use Prim.Native.Nat.{ℕ, suc, _-_, _≤_, _<_}
 use native.Mathlib.Omega.{arith}
 use mathlib.Core.Bool.{Bool, true, false, _&&_, false≢true}
 use mathlib.Core.List.{List, [], _∷_, _++_}
-use lib.ListN.{length, take, drop, getD, set, length-append, length-take, length-drop, length-set, take-append-drop}
-use lib.Seq.{take-at, drop-at, length-take-le, split-at, append-snoc, set-set, set-getD}
+use lib.ListN.{length, take, drop, getD, set, length-append, length-set, take-append-drop}
+use lib.Seq.{take-length, take-at, drop-at, length-take-le, split-at, append-snoc, set-set, set-getD}
 use lib.Dec.{eqb, leb}
 use borrow.Author.Tests.{lt-ltb, le-leb, leb-true, ltb-true}
 use Rattle.lists.specs.ChoiceLaws.{and-yes}
 use Rattle.lists.specs.Lists.{without, inserted}
-use Rattle.lists.specs.MoveLaws.{length-inserted}
+use Rattle.lists.specs.MoveLaws.{length-inserted, length-without}
 use Rattle.board.specs.declared.Row.{Row}
 use Rattle.board.specs.declared.Entry.{Entry}
 use Rattle.board.specs.Journal.{allNumbered, isThere, carried, inverse, doable, blank}
@@ -24,8 +24,7 @@ pub record Leads (R : List Row) (i : Entry) (R′ : List Row) : Type 0 where
 
 module _ (R : List Row) (k : ℕ) where
   length-out : k < length R → length (without R k) ≡ length R - 1
-  unfolding without
-  length-out h = simp (length-append, length-take, length-drop) (omega arith)
+  length-out h = ap (λ (r : List Row). length (without r k)) (sym (take-length R)) ∙ length-without R (length R) k h (omega arith)
 
   in-out : k < length R → inserted (without R k) k (getD R k blank) ≡ R
   unfolding inserted without
