@@ -8,7 +8,7 @@ use lib.IntN.{ℤ}
 use lib.ListN.{length, take, drop, replicate, length-replicate}
 use lib.Seq.{length-take-le, length-front, take-at}
 use Rattle.lists.specs.StoreLaws.{take-replicate}
-use Rattle.board.specs.declared.Row.{Row}
+use Rattle.rows.specs.declared.Row.{Row}
 use Rattle.sorting.specs.KeyLayer.{PositionOrdered}
 use Rattle.table.specs.TableLayer.{rowColumn}
 use Rattle.table.specs.TableLaws.{column-length}

@@ -12,7 +12,7 @@ use lib.IntN.{ℤ, pos}
 use lib.ListN.{List·getD-eq-default, length, getD, replicate, length-replicate, getD-replicate}
 use Rattle.lists.specs.Lists.{_∈_, filter, numbers, totalsFrom, front}
 use Rattle.lists.specs.MemberLaws.{append-out, map-out, filter-in, filter-out, numbers-in, numbers-out}
-use Rattle.board.specs.declared.Row.{Row}
+use Rattle.rows.specs.declared.Row.{Row}
 use Rattle.image.specs.declared.Body.{Body}
 use Rattle.image.specs.Layout.{imageWords}
 use Rattle.options.specs.declared.Depth.{Depth}

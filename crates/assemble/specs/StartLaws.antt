@@ -15,8 +15,8 @@ use Rattle.lists.specs.Lists.{filter, keep, numbers, any}
 use Rattle.lists.specs.MemberLaws.{is-false, place-of}
 use Rattle.lists.specs.StoreLaws.{getD-mapped}
 use Rattle.lists.specs.CountingLaws.{any-positions}
-use Rattle.board.specs.Journal.{blank}
-use Rattle.board.specs.declared.Row.{Row}
+use Rattle.rows.specs.Journal.{blank}
+use Rattle.rows.specs.declared.Row.{Row}
 use Rattle.options.specs.declared.Depth.{Depth}
 use Rattle.options.specs.Options.{levelLimit}
 use Rattle.paths.specs.Forest.{memb, forest}

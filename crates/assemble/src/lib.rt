@@ -4,7 +4,7 @@ ghost use mathlib.Core.Bool.{Bool, false};
 ghost use mathlib.Core.List.{List};
 ghost use Prim.Native.Nat.{ℕ, _*_, _≤_, _<_};
 ghost use lib.ListN.{length, take};
-ghost use Rattle.board.specs.declared.Row.{Row};
+ghost use Rattle.rows.specs.declared.Row.{Row};
 ghost use Rattle.options.specs.ChoiceLayer.{choiceOf};
 ghost use Rattle.options.specs.Options.{orphanOf};
 ghost use Rattle.options.specs.declared.Depth.the-variants.{None};
@@ -16,11 +16,11 @@ ghost use Rattle.links.specs.PreparedLayer.{WithNumerals};
 ghost use Rattle.refusals.specs.TestsLayer.{capacityOf};
 ghost use Rattle.enumerate.specs.EnumerateLayer.{ClearWorkspace};
 ghost use Rattle.assemble.specs.AssembledLayer.{RowsBuilt, PreparedRows, AnyPreparedRows};
-use board::Row;
 use options::Choice;
 use options::Depth;
 use request::Built;
 use request::Start;
+use rows::Row;
 
 // Enumerates the nodes and finishes the build of rows that are prepared. Where it is refused, both slices may hold anything.
 fn write_nodes(

@@ -3,7 +3,6 @@ use mathlib.Core.Path.{_≡_, refl, sym, ap, _∙_}
 use Prim.Native.Nat.{ℕ, _+_, _-_, _≤_, _<_}
 use native.Mathlib.Omega.{arith}
 use mathlib.Core.Bool.{Bool, true, false, cond, _&&_, false≢true}
-use mathlib.Core.List.{List}
 use lib.ListN.{length, getD, set}
 use lib.Seq.{length-take-le, getD-take}
 use lib.Dec.{leb, eqb}
@@ -11,9 +10,9 @@ use borrow.Author.Tests.{eq-eqb, ne-eqb, eqb-true, eqb-false, leb-true, ltb-true
 use Rattle.lists.specs.Lists.{front}
 use Rattle.lists.specs.ChoiceLaws.{and-yes}
 use Rattle.lists.specs.MoveLaws.{movedUp, movedDown, put-in-of, length-inserted, length-without, front-without, length-one, front-one, length-in, front-inserted}
-use Rattle.board.specs.declared.Entry.{Entry}
+use Rattle.rows.specs.declared.Entry.{Entry}
 use Rattle.board.specs.declared.Board.{Board}
-use Rattle.board.specs.Journal.{allNumbered, isThere, carried, inverse, doable, blank}
+use Rattle.rows.specs.Journal.{allNumbered, isThere, carried, inverse, doable, blank}
 use Rattle.board.specs.Edits.{rowsOf}
 
 module _ (b : Board) (e : Entry) (l : length (b .rows) ≡ 1024) (n : b .count ≤ 1024) (d : doable e (rowsOf b) ≡ true) where

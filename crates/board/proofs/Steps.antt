@@ -8,31 +8,25 @@ use lib.ListN.{length, take, drop, getD, set, length-append, length-drop, List·
 use lib.Seq.{length-take-le, take-all, take-take, drop-cons, getD-take, getD-drop, length-slice, slice}
 use lib.IntN.{ℤ}
 use lib.Dec.{leb, ltb, eqb}
-use borrow.Author.Tests.{le-leb, lt-ltb, le-ltb, leb-true, ltb-true, ltb-false, eqb-false}
+use borrow.Author.Tests.{le-leb, lt-ltb, le-ltb, ltb-true, ltb-false, eqb-false}
 use Rattle.lists.specs.Lists.{front}
 use Rattle.lists.specs.ChoiceLaws.{cond-none}
 use Rattle.lists.specs.MoveLaws.{movedUp, moved-up-start}
-use Rattle.board.specs.declared.Row.{Row}
-use Rattle.board.specs.declared.Entry.{Entry}
+use Rattle.rows.specs.declared.Row.{Row}
+use Rattle.rows.specs.declared.Entry.{Entry}
 use Rattle.board.specs.declared.Board.{Board}
-use Rattle.board.specs.declared.Step.{Step}
-use Rattle.board.specs.declared.Call.{Call}
-use Rattle.board.specs.declared.Call.the-variants.{Add, Withdraw, Remark, Undo, Redo}
-use Rattle.board.specs.Journal.{carried, inverse, pushed, blank, noEntry}
-use Rattle.board.specs.Edits.{rowsOf, keptOf, undoneOf, newestOf, nextOf, soundOf, noRow, remarked, addRefusal, rowRefusal, undoRefusal, redoRefusal}
-use Rattle.board.specs.EditLayer.{few, room, moved, named, chosen, newRow, editStep, stepOf}
+use Rattle.rows.specs.declared.Step.{Step}
+use Rattle.rows.specs.declared.Call.{Call}
+use Rattle.rows.specs.declared.Call.the-variants.{Add, Withdraw, Remark, Undo, Redo}
+use Rattle.rows.specs.Journal.{carried, inverse, pushed, blank, noEntry, noRow, remarked}
+use Rattle.board.specs.Edits.{rowsOf, keptOf, undoneOf, newestOf, nextOf, soundOf, addRefusal, rowRefusal, undoRefusal, redoRefusal}
+use Rattle.rows.specs.StepLayer.{few, room, moved, named, chosen, newRow, editStep, stepOf}
+use Rattle.rows.specs.StepLaws.{few-le, room-less}
 use Rattle.board.specs.Laws.{sound-count, sound-kept, sound-undone}
 use Rattle.board.specs.OperationLaws.{refusalBy, operation, keptAfter, undoneAfter, boardAfter, row-there}
 use Rattle.board.proofs.Tape.{store-front, shift-front}
 
 -- ---- the numbers
-
-pub few-le : (n : ℕ) → few n ≤ 256
-unfolding few
-few-le n = go (leb n 256) refl where
-  go : (t : Bool) → leb n 256 ≡ t → cond t n 256 ≤ 256
-  go true e = leb-true n 256 e
-  go false e = omega arith
 
 few-is : (n : ℕ) → n ≤ 256 → few n ≡ n
 unfolding few
@@ -41,13 +35,6 @@ few-is n h = simp (le-leb n 256 h)
 named-is : (n : ℕ) → n ≤ 1024 → named n ≡ n
 unfolding named
 named-is n h = simp (le-leb n 1024 h)
-
-pub room-less : (kept : ℕ) → room kept < 256
-unfolding room
-room-less kept = go (ltb kept 256) refl where
-  go : (t : Bool) → ltb kept 256 ≡ t → cond t kept 255 < 256
-  go true e = ltb-true kept 256 e
-  go false e = omega arith
 
 moved-less : (kept along : ℕ) → along ≤ 256 → moved kept along < 512
 unfolding moved

@@ -1,8 +1,8 @@
 -- Every accepted call carries out one entry and leaves its inverse on the tape: the laws by which its board is known. Assumes nothing.
-use mathlib.Core.Path.{_≡_, refl, sym, ap, _∙_}
+use mathlib.Core.Path.{_≡_, sym, ap, _∙_}
 use Prim.Native.Nat.{ℕ, suc, _+_, _-_, _≤_, _<_}
 use native.Mathlib.Omega.{arith}
-use mathlib.Core.Bool.{Bool, true, false, cond, not}
+use mathlib.Core.Bool.{true, false, cond, not}
 use mathlib.Core.List.{List, [], _∷_, _++_}
 use lib.ListN.{length, take, drop, getD, set, length-append, length-take, length-drop, length-set}
 use lib.Seq.{take-length, drop-length, length-take-le, getD-take, split-at, set-split}
@@ -11,14 +11,13 @@ use lib.Dec.{eqb, leb, ltb}
 use borrow.Author.Tests.{le-leb, lt-ltb, eq-eqb, ne-eqb, eqb-false, leb-false, ltb-false, not-false}
 use Rattle.lists.specs.Lists.{without, inserted}
 use Rattle.lists.specs.ChoiceLaws.{or-no, cond-none}
-use Rattle.board.specs.declared.Row.{Row}
-use Rattle.board.specs.declared.Entry.{Entry}
+use Rattle.rows.specs.declared.Row.{Row}
+use Rattle.rows.specs.declared.Entry.{Entry}
 use Rattle.board.specs.declared.Board.{Board}
-use Rattle.board.specs.declared.Edited.{Edited}
-use Rattle.board.specs.declared.Call.{Call}
-use Rattle.board.specs.declared.Call.the-variants.{Add, Withdraw, Remark, Undo, Redo}
-use Rattle.board.specs.Journal.{allNumbered, isThere, carried, inverse, doable, pushed, blank}
-use Rattle.board.specs.Edits.{rowsOf, keptOf, undoneOf, newestOf, nextOf, rowAt, made, soundOf, refused, accepted, noRow, remarked, addRefusal, addOf, rowRefusal, withdrawOf, remarkOf, undoRefusal, undoOf, redoRefusal, redoOf, edit}
+use Rattle.rows.specs.declared.Call.{Call}
+use Rattle.rows.specs.declared.Call.the-variants.{Add, Withdraw, Remark, Undo, Redo}
+use Rattle.rows.specs.Journal.{allNumbered, isThere, carried, inverse, doable, pushed, blank, noRow, remarked}
+use Rattle.board.specs.Edits.{rowsOf, keptOf, undoneOf, newestOf, nextOf, rowAt, made, soundOf, refused, accepted, addRefusal, addOf, rowRefusal, withdrawOf, remarkOf, undoRefusal, undoOf, redoRefusal, redoOf, edit}
 use Rattle.board.specs.Laws.{numbered-append, numbered-take, numbered-drop, numbered-mid, sound-count, sound-rows, sound-newest, sound-next}
 
 -- the number that refuses a call, 0 for none

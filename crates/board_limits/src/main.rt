@@ -1,13 +1,13 @@
 // Runs a board at its limits, on the paper's own rows and from states that are not sound, one line a case: what was done, then what came of it.
 use board::Board;
-use board::Call;
 use board::Edited;
-use board::Entry;
 use cases::answer;
 use cases::number;
 use cases::row;
 use cases::say;
 use libc::STDOUT_FILENO;
+use rows::Call;
+use rows::Entry;
 
 fn same_entry(a: Entry, b: Entry) -> bool {
     if a.kind != b.kind {

@@ -7,10 +7,10 @@ use native.Mathlib.Omega.{arith}
 use borrow.Author.Tests.{eq-eqb, ne-eqb}
 use lib.IntN.{ℤ, pos}
 use lib.ListN.{length, getD, replicate}
-use Rattle.board.specs.Journal.{blank}
+use Rattle.rows.specs.Journal.{blank}
 use Rattle.lists.specs.MemberLaws.{getD-in}
 use Rattle.lists.specs.Lists.{front}
-use Rattle.board.specs.declared.Row.{Row}
+use Rattle.rows.specs.declared.Row.{Row}
 use Rattle.board.specs.declared.Board.{Board}
 use Rattle.board.specs.Edits.{rowsOf, soundOf}
 use Rattle.board.specs.Laws.{sound-numeral}

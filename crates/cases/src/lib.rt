@@ -1,8 +1,8 @@
 // What the programs that run cases share: the paper's board with the index and the running totals that a build with code 3 makes of it, whether rows are the same, and how an answer is printed. Proved safe and ending; what they print is compared.
 ghost use Prim.Native.Nat.{_≤_};
 use board::Board;
-use board::Row;
 use libc::STDOUT_FILENO;
+use rows::Row;
 
 // A table of contents of 8 words, then numeral, row number, tree size, parent rank, root rank, and level with the bits of closing (2^30) and orphan (2^31), for each of 9 nodes.
 pub const INDEX: [u32; 62] = [

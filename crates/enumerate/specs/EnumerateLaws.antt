@@ -16,7 +16,7 @@ use Rattle.lists.specs.Lists.{_∈_, filter, keep, numbers}
 use Rattle.lists.specs.MemberLaws.{filter-none, map-append, numbers-out, getD-in}
 use Rattle.lists.specs.CountingLaws.{by-place, by-place-length}
 use Rattle.lists.specs.StoreLaws.{getD-mapped, getD-inside}
-use Rattle.board.specs.declared.Row.{Row}
+use Rattle.rows.specs.declared.Row.{Row}
 use Rattle.image.specs.declared.Body.{Body}
 use Rattle.image.specs.Layout.{bodyAt, rowAt, bodyWords, flat}
 use Rattle.image.specs.ImageLaws.{length-flat}

@@ -4,7 +4,7 @@ ghost use mathlib.Core.Bool.{Bool};
 ghost use mathlib.Core.List.{List};
 ghost use Prim.Native.Nat.{_+_, _*_, _≤_, _<_};
 ghost use lib.ListN.{length, getD};
-ghost use Rattle.board.specs.declared.Row.{Row};
+ghost use Rattle.rows.specs.declared.Row.{Row};
 ghost use Rattle.options.specs.declared.Depth.the-variants.{None};
 ghost use Rattle.table.specs.TableLayer.{rowColumn, childColumn, flagColumn};
 ghost use Rattle.links.specs.PreparedLayer.{Prepared, StartFlags, WithNumerals, AnyPrepared};

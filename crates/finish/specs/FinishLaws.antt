@@ -11,13 +11,13 @@ use lib.Dec.{eqb, ltb, eqb→eq}
 use lib.IntN.{ℤ, pos}
 use lib.ListN.{length, getD, replicate, length-map, List·getD-eq-default}
 use lib.Seq.{sets, length-sets}
-use Rattle.board.specs.Journal.{blank}
+use Rattle.rows.specs.Journal.{blank}
 use Rattle.lists.specs.Choice.{bit}
 use Rattle.lists.specs.Lists.{_∈_, filter, numbers, any, Increasing, totalsFrom, front}
 use Rattle.lists.specs.MemberLaws.{eq→eqb, count-map, filter-agree, filter-short, same-test, getD-in, place-of, increasing-at, map-map, map-agree, totals-map}
 use Rattle.lists.specs.StoreLaws.{getD-mapped}
 use Rattle.lists.specs.CountingLaws.{by-place, by-place-length, map-ranks, any-ranks}
-use Rattle.board.specs.declared.Row.{Row}
+use Rattle.rows.specs.declared.Row.{Row}
 use Rattle.image.specs.declared.Body.{Body}
 use Rattle.image.specs.Layout.{rowAt, closingAt, bodyOf, flat, checked, contentsWords, imageWords}
 use Rattle.image.specs.ImageLaws.{holds-front, image-written, row-read, size-read, closing-read}

@@ -5,7 +5,7 @@ ghost use mathlib.Core.List.{List, map};
 ghost use Prim.Native.Nat.{ℕ, _≤_, _<_};
 ghost use lib.Dec.{eqb};
 ghost use lib.ListN.{length};
-ghost use Rattle.board.specs.declared.Row.{Row};
+ghost use Rattle.rows.specs.declared.Row.{Row};
 ghost use Rattle.image.specs.declared.Body.{Body};
 ghost use Rattle.passes.specs.PassesLayer.{anyClosing};
 ghost use Rattle.paths.specs.Refusals.{refusal11};

@@ -12,13 +12,13 @@ ghost use Rattle.flowpewter.specs.Spans.{spanOf};
 ghost use Rattle.flowpewter.specs.Requests.{depthOf, startOf};
 use board::Board;
 use board::Edited;
-use board::Row;
 use history::Replayed;
 use navigate::Climbed;
 use navigate::Listed;
 use options::Depth;
 use request::Built;
 use request::Start;
+use rows::Row;
 use sums::Summed;
 
 // Where a node's span stands in the index slice: its first word, counted from 0, and its number of words.

@@ -10,7 +10,7 @@ use lib.Dec.{T}
 use lib.ListN.{length, getD, length-append, List·getD-append}
 use Rattle.lists.specs.Lists.{_∈_}
 use Rattle.lists.specs.MemberLaws.{getD-in, getD-append-right}
-use Rattle.board.specs.declared.Row.{Row}
+use Rattle.rows.specs.declared.Row.{Row}
 use Rattle.options.specs.declared.Depth.{Depth}
 use Rattle.image.specs.declared.Body.{Body}
 use Rattle.image.specs.Layout.{bodyOf}

@@ -11,13 +11,13 @@ use lib.ListN.{length}
 use mir.Syntax.{w32}
 use mir.Val.{SFits}
 use Rattle.lists.specs.Lists.{_∈_}
-use Rattle.board.specs.declared.Row.{Row}
+use Rattle.rows.specs.declared.Row.{Row}
 use Rattle.board.specs.declared.Board.{Board}
-use Rattle.board.specs.declared.Call.{Call}
+use Rattle.rows.specs.declared.Call.{Call}
 use Rattle.board.specs.Edits.{emptyOf, rowsOf, soundOf}
-use Rattle.history.specs.Machine.{after, start}
-use Rattle.history.specs.Calls.{final, AllFit}
-use Rattle.history.specs.Simulation.{Simulates}
+use Rattle.machine.specs.Machine.{after, start}
+use Rattle.machine.specs.Calls.{final, AllFit}
+use Rattle.machine.specs.Simulation.{Simulates}
 use Rattle.options.specs.declared.Depth.{Depth}
 use Rattle.options.specs.Options.{orphanOf, multiOf, cycleOf}
 use Rattle.forest.specs.Nodes.{init, last, head, treeSize}

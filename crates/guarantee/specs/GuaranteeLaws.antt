@@ -12,13 +12,13 @@ use Rattle.lists.specs.ChoiceLaws.{or-no}
 use Rattle.lists.specs.Lists.{Increasing, numbers, front}
 use Rattle.lists.specs.MemberLaws.{increasing-filter, numbers-rising}
 use Rattle.lists.specs.StoreLaws.{front-is}
-use Rattle.board.specs.declared.Row.{Row}
+use Rattle.rows.specs.declared.Row.{Row}
 use Rattle.board.specs.declared.Board.{Board}
-use Rattle.board.specs.declared.Call.{Call}
+use Rattle.rows.specs.declared.Call.{Call}
 use Rattle.board.specs.Edits.{emptyOf, rowsOf, soundOf}
 use Rattle.board.specs.Laws.{sound-count}
-use Rattle.history.specs.Calls.{final, AllFit}
-use Rattle.history.specs.SimulationLaws.{simulation, final-rows, final-sound}
+use Rattle.machine.specs.Calls.{final, AllFit}
+use Rattle.machine.specs.SimulationLaws.{simulation, final-rows, final-sound}
 use Rattle.options.specs.declared.Depth.{Depth}
 use Rattle.options.specs.declared.Depth.the-variants.{None, Limit}
 use Rattle.options.specs.Options.{orphanOf}

@@ -7,12 +7,12 @@ use Prim.Native.Nat.{ℕ}
 use lib.IntN.{ℤ, pos, negsuc}
 use lib.ListN.{replicate}
 use Rattle.lists.specs.Lists.{numbers}
-use Rattle.board.specs.declared.Row.{Row}
+use Rattle.rows.specs.declared.Row.{Row}
 use Rattle.board.specs.declared.Board.{Board}
-use Rattle.board.specs.declared.Call.{Call}
-use Rattle.board.specs.declared.Call.the-variants.{Add, Withdraw, Undo}
+use Rattle.rows.specs.declared.Call.{Call}
+use Rattle.rows.specs.declared.Call.the-variants.{Add, Withdraw, Undo}
 use Rattle.board.specs.Edits.{emptyOf, rowsOf}
-use Rattle.history.specs.Calls.{edits, final}
+use Rattle.machine.specs.Calls.{edits, final}
 use Rattle.options.specs.declared.Depth.{Depth}
 use Rattle.options.specs.declared.Depth.the-variants.{None, Limit}
 use Rattle.image.specs.Layout.{bodyOf, bodiesOf}

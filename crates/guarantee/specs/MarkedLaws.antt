@@ -7,13 +7,13 @@ use lib.Dec.{eqb}
 use lib.IntN.{ℤ, pos, negsuc}
 use lib.ListN.{length, replicate}
 use Rattle.lists.specs.Lists.{sort, insert, numbers, without, front}
-use Rattle.board.specs.declared.Row.{Row}
-use Rattle.board.specs.declared.Call.{Call}
-use Rattle.board.specs.declared.Call.the-variants.{Withdraw, Undo}
+use Rattle.rows.specs.declared.Row.{Row}
+use Rattle.rows.specs.declared.Call.{Call}
+use Rattle.rows.specs.declared.Call.the-variants.{Withdraw, Undo}
 use Rattle.board.specs.Edits.{emptyOf, rowsOf}
-use Rattle.history.specs.Machine.{after, start}
-use Rattle.history.specs.Calls.{final}
-use Rattle.history.specs.SimulationLaws.{final-rows, final-sound, final-refusals}
+use Rattle.machine.specs.Machine.{after, start}
+use Rattle.machine.specs.Calls.{final}
+use Rattle.machine.specs.SimulationLaws.{final-rows, final-sound, final-refusals}
 use Rattle.options.specs.declared.Depth.{Depth}
 use Rattle.options.specs.declared.Depth.the-variants.{None, Limit}
 use Rattle.options.specs.Options.{levelLimit}

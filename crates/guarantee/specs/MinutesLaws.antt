@@ -10,13 +10,12 @@ use mir.Val.{SFits}
 use lib.ListN.{length, getD, set, take, drop}
 use Rattle.lists.specs.Lists.{_∈_, without}
 use Rattle.lists.specs.MemberLaws.{append-out, take-in, drop-in, set-out}
-use Rattle.board.specs.declared.Row.{Row}
-use Rattle.board.specs.declared.Call.{Call}
-use Rattle.board.specs.declared.Call.the-variants.{Add, Withdraw, Remark, Undo, Redo}
-use Rattle.board.specs.Journal.{blank}
-use Rattle.board.specs.Edits.{noRow, remarked}
-use Rattle.history.specs.Machine.{Machine, Answer, gives, changes, goesBack, comesBack, answer, after, start}
-use Rattle.history.specs.Calls.{MinutesFit, AllFit}
+use Rattle.rows.specs.declared.Row.{Row}
+use Rattle.rows.specs.declared.Call.{Call}
+use Rattle.rows.specs.declared.Call.the-variants.{Add, Withdraw, Remark, Undo, Redo}
+use Rattle.rows.specs.Journal.{blank, noRow, remarked}
+use Rattle.machine.specs.Machine.{Machine, Answer, gives, changes, goesBack, comesBack, answer, after, start}
+use Rattle.machine.specs.Calls.{MinutesFit, AllFit}
 use Rattle.guarantee.specs.Guarantee.{RowsFit}
 
 abbrev ListsFit : List (List Row) → Type 0

@@ -8,11 +8,11 @@ use lib.Dec.{eqb}
 use lib.IntN.{ℤ, pos}
 use lib.ListN.{length}
 use Rattle.lists.specs.Lists.{front}
-use Rattle.board.specs.declared.Row.{Row}
-use Rattle.board.specs.declared.Call.{Call}
+use Rattle.rows.specs.declared.Row.{Row}
+use Rattle.rows.specs.declared.Call.{Call}
 use Rattle.history.specs.declared.Replayed.{Replayed}
-use Rattle.history.specs.Machine.{answers, after, start}
-use Rattle.history.specs.Calls.{AllFit}
+use Rattle.machine.specs.Machine.{answers, after, start}
+use Rattle.machine.specs.Calls.{AllFit}
 use Rattle.options.specs.declared.Depth.{Depth}
 use Rattle.navigate.specs.Navigate.{descendantsAnswer, descendantsOut}
 use Rattle.sums.specs.Sums.{subtreeAnswer}

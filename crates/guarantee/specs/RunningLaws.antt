@@ -13,15 +13,15 @@ use mir.Facts.{sfits-toZ}
 use lib.ListN.{length, getD, length-take}
 use borrow.Author.Tests.{eq-eqb, ne-eqb, eqb-true}
 use Rattle.lists.specs.Lists.{front}
-use Rattle.board.specs.declared.Row.{Row}
-use Rattle.board.specs.declared.Call.{Call}
-use Rattle.board.specs.declared.Call.the-variants.{Add, Withdraw, Remark, Undo, Redo}
+use Rattle.rows.specs.declared.Row.{Row}
+use Rattle.rows.specs.declared.Call.{Call}
+use Rattle.rows.specs.declared.Call.the-variants.{Add, Withdraw, Remark, Undo, Redo}
 use Rattle.board.specs.Edits.{emptyOf}
 use Rattle.history.specs.declared.Replayed.{Replayed}
-use Rattle.history.specs.Machine.{answers, after, start}
-use Rattle.history.specs.Calls.{final, MinutesFit, AllFit}
+use Rattle.machine.specs.Machine.{answers, after, start}
+use Rattle.machine.specs.Calls.{final, MinutesFit, AllFit}
 use Rattle.history.specs.Encoding.{callOf, callAt, firstCalls, decoded, replayRefusal, replayedOf, refusalsOf}
-use Rattle.history.specs.SimulationLaws.{final-rows, final-kept, final-undone, final-valid}
+use Rattle.machine.specs.SimulationLaws.{final-rows, final-kept, final-undone, final-valid}
 use Rattle.history.specs.ReplayLaws.{length-first, replay-simulates}
 use Rattle.options.specs.declared.Depth.{Depth}
 use Rattle.navigate.specs.declared.Listed.{Listed}

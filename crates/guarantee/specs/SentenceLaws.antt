@@ -10,7 +10,7 @@ use lib.Dec.{T, T-not, not-T, eqb, eqb→eq, ltb}
 use lib.ListN.{length, getD}
 use Rattle.lists.specs.Lists.{_∈_, any}
 use Rattle.lists.specs.MemberLaws.{eq→eqb, or-out, or-left, or-right, and-out, and-in, is-true, is-false, any-out, any-in, getD-in, place-of, increasing-at}
-use Rattle.board.specs.declared.Row.{Row}
+use Rattle.rows.specs.declared.Row.{Row}
 use Rattle.options.specs.declared.Depth.{Depth}
 use Rattle.options.specs.Options.{orphanOf, multiOf, cycleOf}
 use Rattle.image.specs.declared.Body.{Body}

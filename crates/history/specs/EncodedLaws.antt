@@ -12,9 +12,9 @@ use mir.Syntax.{w32}
 use mir.Val.{ofZ}
 use borrow.Author.Tests.{eq-eqb, le-ltb, le-leb}
 use Rattle.lists.specs.Lists.{flatMap}
-use Rattle.board.specs.declared.Call.{Call}
-use Rattle.board.specs.declared.Call.the-variants.{Add, Withdraw, Remark, Undo, Redo}
-use Rattle.history.specs.Calls.{MinutesFit, AllFit}
+use Rattle.rows.specs.declared.Call.{Call}
+use Rattle.rows.specs.declared.Call.the-variants.{Add, Withdraw, Remark, Undo, Redo}
+use Rattle.machine.specs.Calls.{MinutesFit, AllFit}
 use Rattle.history.specs.Encoding.{callOf, kindAt, callAt, firstCalls, decoded, allKnown, replayRefusal}
 use Rattle.history.specs.ReplayLaws.{Replays, replay-simulates}
 

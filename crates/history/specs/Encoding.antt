@@ -7,12 +7,12 @@ use lib.Dec.{eqb, leb, ltb}
 use mir.Syntax.{w32}
 use mir.Val.{toZ}
 use Rattle.lists.specs.Lists.{front}
-use Rattle.board.specs.declared.Call.{Call}
-use Rattle.board.specs.declared.Call.the-variants.{Add, Withdraw, Remark, Undo, Redo}
+use Rattle.rows.specs.declared.Call.{Call}
+use Rattle.rows.specs.declared.Call.the-variants.{Add, Withdraw, Remark, Undo, Redo}
 use Rattle.board.specs.Edits.{emptyOf}
 use Rattle.history.specs.declared.Replayed.{Replayed}
-use Rattle.history.specs.Machine.{answers, start}
-use Rattle.history.specs.Calls.{final}
+use Rattle.machine.specs.Machine.{answers, start}
+use Rattle.machine.specs.Calls.{final}
 
 -- Kind 0 is an add of the row parent a, numeral b, order c, minutes d; 1 a withdrawal of row number a; 2 a remark of row number a with minutes b;
 -- 3 an undo; 4 a redo. Minutes are the bits of a signed number. Words that a call does not use are ignored.

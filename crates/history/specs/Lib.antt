@@ -1,13 +1,3 @@
-pub mod Machine
-pub mod Calls
-pub mod Simulation
 pub mod Encoding
-pub mod State
-pub mod StateLaws
-pub mod InverseLaws
-pub mod StepLaws
-pub mod SimulationLaws
 pub mod ReplayLaws
 pub mod EncodedLaws
-pub mod UndoLaws
-pub mod RedoLaws

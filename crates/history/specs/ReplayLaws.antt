@@ -13,13 +13,13 @@ use Rattle.lists.specs.Lists.{front}
 use Rattle.lists.specs.StoreLaws.{front-push}
 use Rattle.board.specs.declared.Board.{Board}
 use Rattle.board.specs.declared.Edited.{Edited}
-use Rattle.board.specs.declared.Call.{Call}
+use Rattle.rows.specs.declared.Call.{Call}
 use Rattle.board.specs.Edits.{emptyOf, rowsOf, soundOf, edit}
-use Rattle.history.specs.Calls.{edits, final}
+use Rattle.machine.specs.Calls.{edits, final}
 use Rattle.history.specs.Encoding.{kindAt, callAt, firstCalls, decoded, allKnown, replayRefusal, replayedOf, refusalsOf}
 use Rattle.history.specs.declared.Replayed.{Replayed}
-use Rattle.history.specs.Machine.{answers, after, start}
-use Rattle.history.specs.SimulationLaws.{final-refusals, final-rows, final-kept, final-undone, final-sound}
+use Rattle.machine.specs.Machine.{answers, after, start}
+use Rattle.machine.specs.SimulationLaws.{final-refusals, final-rows, final-kept, final-undone, final-sound}
 
 -- ---- one more call at the end
 

@@ -6,11 +6,11 @@ ghost use mir.Syntax.{w32};
 ghost use mir.Val.{toZ};
 ghost use Rattle.lists.specs.Lists.{front};
 ghost use Rattle.board.specs.Edits.{emptyOf};
-ghost use Rattle.history.specs.Calls.{edits, final};
+ghost use Rattle.machine.specs.Calls.{edits, final};
 ghost use Rattle.history.specs.Encoding.{callOf, callAt, firstCalls, allKnown, replayRefusal, replayedOf, refusalsOf};
 use board::Board;
-use board::Call;
-use board::Row;
+use rows::Call;
+use rows::Row;
 
 // What `replay` answers: its own refusal number (101 to 103), or 0, the number of calls and the board after them.
 #[repr(C)]

@@ -7,7 +7,7 @@ use lib.Dec.{eqb, ltb}
 use lib.ListN.{length, getD, drop}
 use Rattle.lists.specs.Choice.{bit}
 use Rattle.lists.specs.Lists.{filter, numbers}
-use Rattle.board.specs.declared.Row.{Row}
+use Rattle.rows.specs.declared.Row.{Row}
 use Rattle.paths.specs.Forest.{memb}
 use Rattle.paths.specs.Rows.{num, par}
 use Rattle.paths.specs.Nodes.{sorted}

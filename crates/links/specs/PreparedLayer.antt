@@ -7,7 +7,7 @@ use Prim.Native.Nat.{ℕ, _/_, _%_, _<_, _≤_}
 use lib.Dec.{eqb}
 use lib.ListN.{length, getD, set}
 use Rattle.lists.specs.Choice.{bit}
-use Rattle.board.specs.declared.Row.{Row}
+use Rattle.rows.specs.declared.Row.{Row}
 use Rattle.paths.specs.Rows.{row, num, RowOf}
 use Rattle.paths.specs.Forest.{memb}
 use Rattle.request.specs.declared.Start.{Start}

@@ -3,7 +3,7 @@ use Prim.Native.Nat.{ℕ, _+_, _%_}
 use mathlib.Core.Bool.{Bool, true, false, cond, not, _||_}
 use mathlib.Core.List.{List, [], _∷_}
 use lib.Dec.{eqb}
-use Rattle.board.specs.declared.Row.{Row}
+use Rattle.rows.specs.declared.Row.{Row}
 use Rattle.board.specs.declared.Edited.{Edited}
 use Rattle.board.specs.Edits.{addOf, emptyOf}
 use Rattle.lines.specs.declared.Scan.{Scan}

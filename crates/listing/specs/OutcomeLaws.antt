@@ -10,10 +10,10 @@ use lib.ListN.{length, length-append, length-replicate}
 use lib.Seq.{length-take-le}
 use borrow.Author.Tests.{eq-eqb, ne-eqb, eqb-true, eqb-false, leb-false}
 use Rattle.lists.specs.StoreLaws.{length-front, take-front}
-use Rattle.board.specs.declared.Row.{Row}
+use Rattle.rows.specs.declared.Row.{Row}
 use Rattle.board.specs.declared.Board.{Board}
 use Rattle.board.specs.declared.Edited.{Edited}
-use Rattle.board.specs.Journal.{blank}
+use Rattle.rows.specs.Journal.{blank}
 use Rattle.lists.specs.ChoiceLaws.{cond-none}
 use Rattle.board.specs.Edits.{addRefusal, addOf, emptyOf, soundOf, rowsOf, refused, accepted}
 use Rattle.lines.specs.declared.Scan.{Scan}

@@ -1,10 +1,10 @@
 // The listing program as a library: the bytes of its input become the rows of a board, and the words of an index become the columns of its nodes.
 use board::Board;
-use board::Row;
 use lines::Found;
 use lines::Scan;
 use lines::Step;
 use printing::Columns;
+use rows::Row;
 ghost use mathlib.Core.Path.{_≡_};
 ghost use Rattle.lines.specs.Text.{values};
 ghost use Rattle.listing.specs.Nodes.{columnsOf};

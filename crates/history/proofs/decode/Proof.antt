@@ -5,7 +5,7 @@ use mathlib.Core.Path.{ap, _∙_}
 use lib.IntN.{ℤ}
 use mir.Syntax.{w32}
 use mir.Facts.{toZ-ofZ}
-use Rattle.board.specs.declared.Call.the-variants.{Add, Remark}
+use Rattle.rows.specs.declared.Call.the-variants.{Add, Remark}
 use Rattle.history.specs.Encoding.{callOf}
 use Rattle.history.proofs.decode.Statement.{statement}
 use Rattle.history.proofs.decode.Tie as tie

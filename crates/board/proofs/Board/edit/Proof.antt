@@ -14,19 +14,20 @@ use borrow.Author.Tests.{le-leb}
 use Rattle.lists.specs.Lists.{front}
 use Rattle.lists.specs.StoreLaws.{length-mapped}
 use Rattle.lists.specs.MoveLaws.{movedUp, moved-up-start, moved-up-step, movedDown, moved-down-start, moved-down-step}
-use Rattle.board.specs.declared.Row.{Row}
-use Rattle.board.specs.declared.Entry.{Entry}
+use Rattle.rows.specs.declared.Row.{Row}
+use Rattle.rows.specs.declared.Entry.{Entry}
 use Rattle.board.specs.declared.Board.{Board}
-use Rattle.board.specs.declared.Step.{Step}
-use Rattle.board.specs.declared.Call.{Call}
-use Rattle.board.specs.Journal.{allNumbered, carried, inverse, doable, blank, noEntry}
-use Rattle.board.specs.Edits.{rowsOf, soundOf, edit}
-use Rattle.board.specs.EditLayer.{chosen, newRow, stepOf}
+use Rattle.rows.specs.declared.Step.{Step}
+use Rattle.rows.specs.declared.Call.{Call}
+use Rattle.rows.specs.Journal.{allNumbered, carried, inverse, doable, blank, noEntry}
+use Rattle.board.specs.Edits.{rowsOf, soundOf}
+use Rattle.rows.specs.StepLayer.{chosen, newRow}
 use Rattle.board.specs.Laws.{sound-count}
 use Rattle.board.specs.OperationLaws.{refusalBy, operation, boardAfter, edit-refused, Carries, edit-carries}
 use Rattle.board.proofs.Sound.{turn, sound-test}
 use Rattle.board.proofs.Entries.{in-place, in-room, in-count, in-rows, at-place, out-count, out-rows, set-count, set-rows, turned, place-below}
-use Rattle.board.proofs.Steps.{few-le, refusal-is, Planned, planned, shifted, finished}
+use Rattle.rows.specs.StepLaws.{few-le}
+use Rattle.board.proofs.Steps.{refusal-is, Planned, planned, shifted, finished}
 use Rattle.board.proofs.Board.edit.Statement.{statement}
 use Rattle.board.proofs.Board.edit.Tie as tie
 

@@ -1,0 +1,15 @@
+-- `rows::entry_chosen` meets its contract. Assumes nothing.
+use Rattle.rows.specs.StepLayer.{chosen}
+use Rattle.rows.proofs.entry_chosen.Statement.{statement}
+use Rattle.rows.proofs.entry_chosen.Tie as tie
+
+returns : tie.Need-returns
+unfolding chosen
+returns c = simp (c .if1 .taken)
+
+returns-2 : tie.Need-returns-2
+unfolding chosen
+returns-2 c = simp (c .if1 .left)
+
+pub entry-chosen-spec : {M : Type 1} → statement M
+entry-chosen-spec = tie.close (tie.spec returns returns-2)

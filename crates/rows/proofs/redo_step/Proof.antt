@@ -1,0 +1,49 @@
+-- `rows::redo_step` meets its contract. Assumes nothing.
+use borrow.Author.Needs.{needs}
+use native.Mathlib.Omega.{arith}
+use Rattle.rows.specs.StepLayer.{stepOf}
+use Rattle.rows.specs.StepLaws.{room-less, few-le}
+use Rattle.rows.proofs.redo_step.Statement.{statement}
+use Rattle.rows.proofs.redo_step.Tie as tie
+
+room-after-requires : tie.Need-room-after-requires
+room-after-requires c κs = search needs
+
+step-refusal-requires : tie.Need-step-refusal-requires
+step-refusal-requires c κs = search needs
+
+at-most-256-requires : tie.Need-at-most-256-requires
+at-most-256-requires c κs = search needs
+
+moves-for-requires : tie.Need-moves-for-requires
+moves-for-requires c κs = rw (c .at-most-256 .ensures) (few-le _)
+
+add-t7 : tie.Need-add-t7
+add-t7 c = record { fits = omega (arith, c .before .before .before .room-after .ensures, room-less (c .before .before .before .before .args .kept)) }
+
+one-less-requires : tie.Need-one-less-requires
+one-less-requires c κs = search needs
+
+blank-row-requires : tie.Need-blank-row-requires
+blank-row-requires c κs = search needs
+
+entry-of-requires : tie.Need-entry-of-requires
+entry-of-requires c κs = search needs
+
+returns : tie.Need-returns
+unfolding stepOf
+returns c = cc
+
+pub redo-step-spec : {M : Type 1} → statement M
+redo-step-spec =
+    tie.close
+    (tie.spec
+    room-after-requires
+    step-refusal-requires
+    at-most-256-requires
+    moves-for-requires
+    add-t7
+    one-less-requires
+    blank-row-requires
+    entry-of-requires
+    returns)

@@ -1,0 +1,16 @@
+-- `rows::room_after` meets its contract. Assumes nothing.
+use borrow.Author.Tests.{lt-ltb, le-ltb}
+use Rattle.rows.specs.StepLayer.{room}
+use Rattle.rows.proofs.room_after.Statement.{statement}
+use Rattle.rows.proofs.room_after.Tie as tie
+
+returns : tie.Need-returns
+unfolding room
+returns c = simp (lt-ltb _ _ (c .if1 .taken))
+
+returns-2 : tie.Need-returns-2
+unfolding room
+returns-2 c = simp (le-ltb _ _ (c .if1 .left))
+
+pub room-after-spec : {M : Type 1} → statement M
+room-after-spec = tie.close (tie.spec returns returns-2)

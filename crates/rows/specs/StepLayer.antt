@@ -1,0 +1,90 @@
+-- The tests that the code makes of a board, and what it reads of a call: what contracts of inner functions cite. Assumes nothing.
+use Prim.Native.Nat.{ℕ, _+_, _-_}
+use mathlib.Core.Bool.{Bool, true, false, cond, _&&_, _||_}
+use lib.Dec.{eqb, leb, ltb}
+use Rattle.rows.specs.declared.Row.{Row}
+use Rattle.rows.specs.declared.Entry.{Entry}
+use Rattle.rows.specs.declared.Step.{Step}
+use Rattle.rows.specs.declared.Call.{Call}
+use Rattle.rows.specs.declared.Call.the-variants.{Add, Withdraw, Remark, Undo, Redo}
+use Rattle.rows.specs.Journal.{blank, noEntry, noRow, remarked}
+
+-- whether e can be carried out on n rows with numerals of 1 or more, by numbers alone
+unfoldable pub canDo : Entry → ℕ → Bool
+canDo e n =
+    cond (eqb (e .kind) 0) (ltb (e .at) n)
+    (cond (eqb (e .row .numeral) 0) false
+    (cond (eqb (e .kind) 1) (cond (leb 1024 n) false (leb (e .at) n))
+    (cond (eqb (e .kind) 2) (ltb (e .at) n) false)))
+
+-- the same, if there are entries of its sort
+abbrev pub noneOr : ℕ → Entry → ℕ → Bool
+noneOr many e n = eqb many 0 || canDo e n
+
+-- whether a board is sound, by its numbers, its newest kept and undone entry and whether all its rows have numerals of 1 or more
+unfoldable pub soundBy : ℕ → ℕ → ℕ → Bool → Entry → Entry → Bool
+soundBy count kept undone numbered newest next =
+    leb count 1024 && (leb kept 256 && (leb undone 256 && (numbered && (noneOr kept newest count && noneOr undone next count))))
+
+-- a number of entries, at most 256
+unfoldable pub few : ℕ → ℕ
+few n = cond (leb n 256) n 256
+
+-- where one more kept entry goes, and how many places of the tape move up by one before it: the oldest of 256 is dropped, and the entries after the kept ones move along
+unfoldable pub room : ℕ → ℕ
+room kept = cond (ltb kept 256) kept 255
+
+unfoldable pub moved : ℕ → ℕ → ℕ
+moved kept along = cond (ltb kept 256) 0 (255 + along)
+
+-- a place among the rows that a call names
+unfoldable pub named : ℕ → ℕ
+named n = cond (leb n 1024) n 0
+
+-- the entry that a call carries out: the one on the tape, or the one given; and its row, of which a remark takes the minutes alone
+unfoldable pub chosen : Bool → Entry → Entry → Entry
+chosen taped stored given = cond taped stored given
+
+unfoldable pub newRow : Bool → Row → Row → Row
+newRow remarks row old = cond remarks (remarked old (row .minutes)) row
+
+-- an edit: it keeps a step and forgets those undone
+unfoldable pub editStep : ℕ → ℕ → Bool → Entry → Step
+editStep refusal kept remarks entry = record {
+  refusal = refusal;
+  moves = moved kept 0;
+  place = room kept;
+  kept = room kept + 1;
+  undone = 0;
+  taped = false;
+  remarks = remarks;
+  entry = entry;
+}
+
+-- what a call does on a board of so many rows, kept and undone steps
+unfoldable pub stepOf : Call → ℕ → ℕ → ℕ → Step
+stepOf (Add r) count kept undone =
+    editStep (cond (eqb (r .numeral) 0) 2 (cond (leb 1024 count) 3 0)) kept false (record { kind = 1; at = named count; row = r })
+stepOf (Withdraw k) count kept undone = editStep (cond (noRow count k) 4 0) kept false (record { kind = 0; at = named (k - 1); row = blank })
+stepOf (Remark k minutes) count kept undone =
+    editStep (cond (noRow count k) 4 0) kept true (record { kind = 2; at = named (k - 1); row = remarked blank minutes })
+stepOf Undo count kept undone = record {
+  refusal = cond (eqb kept 0) 5 0;
+  moves = 0;
+  place = kept - 1;
+  kept = kept - 1;
+  undone = cond (ltb undone 256) (undone + 1) 256;
+  taped = true;
+  remarks = false;
+  entry = noEntry;
+}
+stepOf Redo count kept undone = record {
+  refusal = cond (eqb undone 0) 17 0;
+  moves = moved kept (few undone);
+  place = room kept;
+  kept = room kept + 1;
+  undone = undone - 1;
+  taped = true;
+  remarks = false;
+  entry = noEntry;
+}
