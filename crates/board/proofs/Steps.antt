@@ -20,7 +20,7 @@ use Rattle.rows.specs.declared.Call.{Call}
 use Rattle.rows.specs.declared.Call.the-variants.{Add, Withdraw, Remark, Undo, Redo}
 use Rattle.rows.specs.Journal.{carried, inverse, pushed, blank, noEntry, noRow, remarked}
 use Rattle.board.specs.Edits.{rowsOf, keptOf, undoneOf, newestOf, nextOf, soundOf, addRefusal, rowRefusal, undoRefusal, redoRefusal}
-use Rattle.rows.specs.StepLayer.{few, room, moved, named, chosen, newRow, editStep, stepOf}
+use Rattle.rows.specs.StepLayer.{few, room, moved, named, chosen, newRow, editStep, stepOf, judgedStep}
 use Rattle.rows.specs.StepLaws.{few-le, room-less}
 use Rattle.board.specs.Laws.{sound-count, sound-kept, sound-undone}
 use Rattle.board.specs.OperationLaws.{refusalBy, operation, keptAfter, undoneAfter, boardAfter, row-there}
@@ -255,9 +255,25 @@ planned-by b (Remark k m) lj s e = planned-remark b lj s k m (row-there (b .coun
 planned-by b Undo lj s e = planned-undo b lj s (cond-none (eqb (b .kept) 0) 5 0 (omega arith) e .0)
 planned-by b Redo lj s e = planned-redo b lj s (cond-none (eqb (b .undone) 0) 17 0 (omega arith) e .0)
 
-pub planned : (b : Board) (c : Call) (s : Step) → length (b .journal) ≡ 512 → s ≡ stepOf c (b .count) (b .kept) (b .undone) → soundOf b ≡ true → s .refusal ≡ 0 → Planned b c s
+-- the number that refuses it is nothing to the rest
+judged-planned : (b : Board) (c : Call) (t : Bool) (s : Step) → Planned b c s → Planned b c (judgedStep t s)
+unfolding judgedStep
+judged-planned b c t s p = record {
+  few-moves = p .few-moves;
+  inside = p .inside;
+  done = p .done;
+  kept-after = p .kept-after;
+  undone-after = p .undone-after;
+  tape = p .tape;
+}
+
+pub planned : (b : Board) (c : Call) (s : Step) → length (b .journal) ≡ 512 → s ≡ judgedStep (soundOf b) (stepOf c (b .count) (b .kept) (b .undone)) → soundOf b ≡ true → s .refusal ≡ 0
+    → Planned b c s
+unfolding judgedStep
 planned b c s lj q y e =
-    subst (λ (x : Step). Planned b c x) (sym q) (planned-by b c lj y (ap (λ (x : Step). x .refusal) (sym q) ∙ e))
+    let d = stepOf c (b .count) (b .kept) (b .undone) in
+    let own : d .refusal ≡ 0 = sym (ap (λ (x : Step). x .refusal) q ∙ ap (λ (t : Bool). cond t (d .refusal) 1) y) ∙ e in
+    subst (λ (x : Step). Planned b c x) (sym q) (judged-planned b c (soundOf b) d (planned-by b c lj y own))
 
 -- ---- the board that it leaves
 

@@ -88,3 +88,16 @@ stepOf Redo count kept undone = record {
   remarks = false;
   entry = noEntry;
 }
+
+-- the same, refused by 1 where the board isn't sound
+unfoldable pub judgedStep : Bool → Step → Step
+judgedStep sound s = record {
+  refusal = cond sound (s .refusal) 1;
+  moves = s .moves;
+  place = s .place;
+  kept = s .kept;
+  undone = s .undone;
+  taped = s .taped;
+  remarks = s .remarks;
+  entry = s .entry;
+}

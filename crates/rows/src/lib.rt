@@ -5,7 +5,7 @@ ghost use Prim.Native.Nat.{_+_, _-_, _≤_};
 ghost use lib.Dec.{eqb, leb, ltb};
 ghost use Rattle.rows.specs.declared.Call.the-variants.{Add, Withdraw, Remark, Undo, Redo};
 ghost use Rattle.rows.specs.Journal.{blank, noRow, remarked};
-ghost use Rattle.rows.specs.StepLayer.{canDo, noneOr, soundBy, few, room, moved, named, chosen, newRow, editStep, stepOf};
+ghost use Rattle.rows.specs.StepLayer.{canDo, noneOr, soundBy, few, room, moved, named, chosen, newRow, editStep, stepOf, judgedStep};
 
 // A row of the parts list: parent 0 is none, minutes below 0 are a deduction.
 #[repr(C)]
@@ -113,7 +113,7 @@ pub fn one_less(n: usize) -> usize
 }
 
 // Whether a board is sound, by its numbers, its newest entries and whether all its rows have numerals of 1 or more.
-pub fn sound_by(
+fn sound_by(
     count: usize,
     kept: usize,
     undone: usize,
@@ -178,7 +178,7 @@ fn step_refusal(steps: usize, number: u32) -> u32
 }
 
 // Refusal 1, else the other.
-pub fn first_refusal(sound: bool, other: u32) -> u32
+fn first_refusal(sound: bool, other: u32) -> u32
     ensures { λ r. ⌜ r ≡ cond sound other 1 ⌝ }
 {
     if sound {
@@ -337,7 +337,7 @@ fn redo_step(kept: usize, undone: usize) -> Step
 }
 
 // What a call does on a board of so many rows, kept and undone steps.
-pub fn step_of(call: Call, count: usize, kept: usize, undone: usize) -> Step
+fn step_of(call: Call, count: usize, kept: usize, undone: usize) -> Step
     ensures { λ r. ⌜ r ≡ stepOf call count kept undone ⌝ }
 {
     match call {
@@ -347,6 +347,40 @@ pub fn step_of(call: Call, count: usize, kept: usize, undone: usize) -> Step
         Call::Undo => undo_step(kept, undone),
         Call::Redo => redo_step(kept, undone),
     }
+}
+
+// The same, refused by 1 where the board isn't sound.
+pub fn judged(
+    call: Call,
+    count: usize,
+    kept: usize,
+    undone: usize,
+    numbered: bool,
+    newest: Entry,
+    next: Entry,
+) -> Step
+    ensures { λ r. ⌜ r ≡ judgedStep (soundBy count kept undone numbered newest next) (stepOf call count kept undone) ⌝ }
+{
+    let sound = sound_by(count, kept, undone, numbered, newest, next);
+    let mut step = step_of(call, count, kept, undone);
+    step.refusal = first_refusal(sound, step.refusal);
+    step
+}
+
+// Whether a board is sound: then a call isn't refused by 1. It is asked so because the compiler leaves `judged` a function of its own;
+// with the test inside it `Board::sound` would be too large to be put into a build, which would copy the board once more.
+pub fn is_sound(
+    count: usize,
+    kept: usize,
+    undone: usize,
+    numbered: bool,
+    newest: Entry,
+    next: Entry,
+) -> bool
+    ensures { λ r. ⌜ r ≡ soundBy count kept undone numbered newest next ⌝ }
+{
+    let step = judged(Call::Undo, count, kept, undone, numbered, newest, next);
+    step.refusal != 1
 }
 
 // The entry that a call carries out.

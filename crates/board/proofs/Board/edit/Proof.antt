@@ -21,7 +21,7 @@ use Rattle.rows.specs.declared.Step.{Step}
 use Rattle.rows.specs.declared.Call.{Call}
 use Rattle.rows.specs.Journal.{allNumbered, carried, inverse, doable, blank, noEntry}
 use Rattle.board.specs.Edits.{rowsOf, soundOf}
-use Rattle.rows.specs.StepLayer.{chosen, newRow}
+use Rattle.rows.specs.StepLayer.{chosen, newRow, stepOf, judgedStep}
 use Rattle.board.specs.Laws.{sound-count}
 use Rattle.board.specs.OperationLaws.{refusalBy, operation, boardAfter, edit-refused, Carries, edit-carries}
 use Rattle.board.proofs.Sound.{turn, sound-test}
@@ -37,44 +37,44 @@ stored b p = record { count = b .count; rows = p; kept = b .kept; undone = b .un
 
 -- the rows from place i on decide, unless one before them has
 abbrev Inv-loop : tie.InvT-loop
-Inv-loop next count kept undone step end numbered₀ i₀ numbered i =
+Inv-loop call next count kept undone end numbered₀ i₀ numbered i =
     (i ≤ end) × (end ≤ 1024) × (length (next .rows) ≡ 1024) × (allNumbered (slice 0 end (next .rows)) ≡ (numbered && allNumbered (slice i end (next .rows))))
 
 abbrev μ-loop : tie.MeasureT-loop
-μ-loop next count kept undone step end numbered₀ i₀ numbered i =
+μ-loop call next count kept undone end numbered₀ i₀ numbered i =
     end - i
 
 -- the first places of the tape have moved up by one
 abbrev Inv-loop2 : tie.InvT-loop2
-Inv-loop2 next₀ count kept undone step end numbered i front before sound refusal moves m₀ next m =
+Inv-loop2 next₀ count kept undone end numbered i front before step moves m₀ next m =
     (m ≤ moves) × (moves < 512) × (length (next₀ .journal) ≡ 512) × (next ≡ shifted next₀ m)
 
 abbrev μ-loop2 : tie.MeasureT-loop2
-μ-loop2 next₀ count kept undone step end numbered i front before sound refusal moves m₀ next m =
+μ-loop2 next₀ count kept undone end numbered i front before step moves m₀ next m =
     moves - m
 
 -- so have the rows after the one taken out
 abbrev Inv-loop3 : tie.InvT-loop3
-Inv-loop3 next₀ count kept undone end numbered i front before sound refusal moves m place kind at last j₀ next j =
+Inv-loop3 next₀ count kept undone end numbered i front before moves m place kind at last j₀ next j =
     (at ≤ j) × (j ≤ last) × (last < 1024) × (length (next₀ .rows) ≡ 1024) × (next ≡ stored next₀ (movedUp (next₀ .rows) at j))
 
 abbrev μ-loop3 : tie.MeasureT-loop3
-μ-loop3 next₀ count kept undone end numbered i front before sound refusal moves m place kind at last j₀ next j =
+μ-loop3 next₀ count kept undone end numbered i front before moves m place kind at last j₀ next j =
     last - j
 
 -- the rows from the place on have moved down
 abbrev Inv-loop4 : tie.InvT-loop4
-Inv-loop4 next₀ count kept undone end numbered i front before sound refusal moves m place kind at row k₀ next k =
+Inv-loop4 next₀ count kept undone end numbered i front before moves m place kind at row k₀ next k =
     (at ≤ k) × (k ≤ count) × (count < 1024) × (length (next₀ .rows) ≡ 1024) × (next ≡ stored next₀ (movedDown (next₀ .rows) k count))
 
 abbrev μ-loop4 : tie.MeasureT-loop4
-μ-loop4 next₀ count kept undone end numbered i front before sound refusal moves m place kind at row k₀ next k =
+μ-loop4 next₀ count kept undone end numbered i front before moves m place kind at row k₀ next k =
     k
 
 -- ---- what is known at the places that matter
 
 abbrev Refused : Type 0
-Refused = tie.After-first-refusal Inv-loop μ-loop Inv-loop2 μ-loop2 Inv-loop3 μ-loop3 Inv-loop4 μ-loop4
+Refused = tie.After-struct-known Inv-loop μ-loop Inv-loop2 μ-loop2 Inv-loop3 μ-loop3 Inv-loop4 μ-loop4
 
 abbrev Taken : Type 0
 Taken = tie.Else2 Inv-loop μ-loop Inv-loop2 μ-loop2 Inv-loop3 μ-loop3 Inv-loop4 μ-loop4
@@ -83,13 +83,13 @@ abbrev Moved : Type 0
 Moved = tie.After-loop2 Inv-loop μ-loop Inv-loop2 μ-loop2 Inv-loop3 μ-loop3 Inv-loop4 μ-loop4
 
 abbrev Known : Type 0
-Known = tie.After-struct-known Inv-loop μ-loop Inv-loop2 μ-loop2 Inv-loop3 μ-loop3 Inv-loop4 μ-loop4
+Known = tie.After-struct-known2 Inv-loop μ-loop Inv-loop2 μ-loop2 Inv-loop3 μ-loop3 Inv-loop4 μ-loop4
 
 abbrev Turned : Type 0
 Turned = tie.After-inverse-of Inv-loop μ-loop Inv-loop2 μ-loop2 Inv-loop3 μ-loop3 Inv-loop4 μ-loop4
 
 abbrev start : Refused → tie.Start Inv-loop μ-loop Inv-loop2 μ-loop2 Inv-loop3 μ-loop3 Inv-loop4 μ-loop4
-start c = c .before .before .before .before .before .before .before .before .before .before
+start c = c .before .before .before .before .before .before .before .before .before
 
 abbrev self : Refused → Board
 self c = start c .args .self
@@ -98,30 +98,30 @@ abbrev call : Refused → Call
 call c = start c .args .call
 
 abbrev step : Refused → Step
-step c = c .before .before .before .before .before .before .before .before .before .step-of .result
+step c = c .before .judged .result
 
 long : (c : tie.Start Inv-loop μ-loop Inv-loop2 μ-loop2 Inv-loop3 μ-loop3 Inv-loop4 μ-loop4) → (length (c .args .self .rows) ≡ 1024) × (length (c .args .self .journal) ≡ 512)
 long c = (search (needs, length-mapped), search (needs, length-mapped))
 
 -- the places of the newest entries
 front-le : (c : tie.After-one-less Inv-loop μ-loop Inv-loop2 μ-loop2 Inv-loop3 μ-loop3 Inv-loop4 μ-loop4) → c .before .at-most-256 .result ≤ 256
-front-le c = rw (c .before .at-most-256 .ensures) (few-le (c .before .before .before .before .before .before .args .self .kept))
+front-le c = rw (c .before .at-most-256 .ensures) (few-le (c .before .before .before .before .before .args .self .kept))
 
-sound-is : (c : Refused) → c .before .sound-by .result ≡ soundOf (self c)
-sound-is c =
+-- what the call does, by the board's own soundness
+judged-is : (c : Refused) → step c ≡ judgedStep (soundOf (self c)) (stepOf (call c) (self c .count) (self c .kept) (self c .undone))
+judged-is c =
     let o = c .before .before .before .before in
     let l = o .before .before .before .loop in
     let held = o .before .before .before .before .held in
     let e : l .i ≡ held .result = omega (arith, o .before .before .loop-test .left, l .inv .0) in
-    c .before .sound-by .ensures
-    ∙ sound-test (self c) (held .result) (o .one-less .result) (o .before .at-most-256 .result) (l .inv .2) (held .ensures .1) (o .before .at-most-256 .ensures) (o .one-less .ensures) (l .numbered)
-    (l .inv .3 ∙ simp (e, slice-empty (held .result) (self c .rows), and-true))
+    c .before .judged .ensures
+    ∙ ap (λ (t : Bool). judgedStep t (stepOf (call c) (self c .count) (self c .kept) (self c .undone)))
+    (sound-test (self c) (held .result) (o .one-less .result) (o .before .at-most-256 .result) (l .inv .2) (held .ensures .1) (o .before .at-most-256 .ensures) (o .one-less .ensures) (l .numbered)
+    (l .inv .3 ∙ simp (e, slice-empty (held .result) (self c .rows), and-true)))
 
-refused-by : (c : Refused) → c .first-refusal .result ≡ refusalBy (self c) (call c)
-refused-by c =
-    c .first-refusal .ensures
-    ∙ (λ i. cond (sound-is c i) (c .before .before .before .before .before .before .before .before .before .step-of .ensures i .refusal) 1)
-    ∙ refusal-is (self c) (call c)
+refused-by : (c : Refused) → step c .refusal ≡ refusalBy (self c) (call c)
+unfolding judgedStep
+refused-by c = ap (λ (s : Step). s .refusal) (judged-is c) ∙ refusal-is (self c) (call c)
 
 -- nothing refuses
 carries : (c : Taken) → Carries (self (c .before)) (call (c .before))
@@ -130,8 +130,7 @@ carries c = edit-carries (self (c .before)) (long (start (c .before)) .0) (call 
 plan : (c : Taken) → Planned (self (c .before)) (call (c .before)) (step (c .before))
 plan c =
     let r = c .before in
-    planned (self r) (call r) (step r) (long (start r) .1) (r .before .before .before .before .before .before .before .before .before .step-of .ensures) (carries c .sound)
-    (sym (r .first-refusal .ensures ∙ ap (λ (t : Bool). cond t (step r .refusal) 1) (sound-is r ∙ carries c .sound)) ∙ c .if2 .left)
+    planned (self r) (call r) (step r) (long (start r) .1) (judged-is r) (carries c .sound) (c .if2 .left)
 
 -- the tape has moved
 moved-board : (c : Moved) → c .before .loop2 .next ≡ shifted (self (c .before .before .before)) (step (c .before .before .before) .moves)
@@ -211,9 +210,6 @@ left c n f hn hf =
 
 -- ---- the needs
 
-step-of-requires : tie.Need-step-of-requires Inv-loop μ-loop Inv-loop2 μ-loop2 Inv-loop3 μ-loop3 Inv-loop4 μ-loop4
-step-of-requires c κs = search needs
-
 held-requires : tie.Need-held-requires Inv-loop μ-loop Inv-loop2 μ-loop2 Inv-loop3 μ-loop3 Inv-loop4 μ-loop4
 held-requires c κs = search needs
 
@@ -235,7 +231,7 @@ loop-less c = search needs
 loop-again : tie.Need-loop-again Inv-loop μ-loop Inv-loop2 μ-loop2 Inv-loop3 μ-loop3 Inv-loop4 μ-loop4
 loop-again c =
     let l = c .before .before .loop in
-    let b = c .before .before .before .before .before .args .self in
+    let b = c .before .before .before .before .args .self in
     let end = c .before .before .before .held .result in
     let e = turn (b .rows) end (l .i) (c .before .loop-test .taken) (omega arith) in (
       omega arith,
@@ -265,11 +261,8 @@ mul-waiting c = record { fits = omega (arith, front-le (c .before)) }
 element-copy-out-waiting : tie.Need-element-copy-out-waiting Inv-loop μ-loop Inv-loop2 μ-loop2 Inv-loop3 μ-loop3 Inv-loop4 μ-loop4
 element-copy-out-waiting c = omega (arith, front-le (c .before))
 
-sound-by-requires : tie.Need-sound-by-requires Inv-loop μ-loop Inv-loop2 μ-loop2 Inv-loop3 μ-loop3 Inv-loop4 μ-loop4
-sound-by-requires c κs = search needs
-
-first-refusal-requires : tie.Need-first-refusal-requires Inv-loop μ-loop Inv-loop2 μ-loop2 Inv-loop3 μ-loop3 Inv-loop4 μ-loop4
-first-refusal-requires c κs = search needs
+judged-requires : tie.Need-judged-requires Inv-loop μ-loop Inv-loop2 μ-loop2 Inv-loop3 μ-loop3 Inv-loop4 μ-loop4
+judged-requires c κs = search needs
 
 returns : tie.Need-returns Inv-loop μ-loop Inv-loop2 μ-loop2 Inv-loop3 μ-loop3 Inv-loop4 μ-loop4
 returns c =
@@ -290,8 +283,8 @@ mul-next c = search needs
 element-copy-out-next : tie.Need-element-copy-out-next Inv-loop μ-loop Inv-loop2 μ-loop2 Inv-loop3 μ-loop3 Inv-loop4 μ-loop4
 element-copy-out-next c = search needs
 
-mul-t50 : tie.Need-mul-t50 Inv-loop μ-loop Inv-loop2 μ-loop2 Inv-loop3 μ-loop3 Inv-loop4 μ-loop4
-mul-t50 c = search needs
+mul-t48 : tie.Need-mul-t48 Inv-loop μ-loop Inv-loop2 μ-loop2 Inv-loop3 μ-loop3 Inv-loop4 μ-loop4
+mul-t48 c = search needs
 
 element-set-from-next : tie.Need-element-set-from-next Inv-loop μ-loop Inv-loop2 μ-loop2 Inv-loop3 μ-loop3 Inv-loop4 μ-loop4
 element-set-from-next c = search needs
@@ -338,8 +331,8 @@ row-chosen-requires c κs = search needs
 inverse-of-requires : tie.Need-inverse-of-requires Inv-loop μ-loop Inv-loop2 μ-loop2 Inv-loop3 μ-loop3 Inv-loop4 μ-loop4
 inverse-of-requires c κs = search needs
 
-mul-t36 : tie.Need-mul-t36 Inv-loop μ-loop Inv-loop2 μ-loop2 Inv-loop3 μ-loop3 Inv-loop4 μ-loop4
-mul-t36 c = record { fits = omega (arith, plan (taken (known c)) .inside) }
+mul-t34 : tie.Need-mul-t34 Inv-loop μ-loop Inv-loop2 μ-loop2 Inv-loop3 μ-loop3 Inv-loop4 μ-loop4
+mul-t34 c = record { fits = omega (arith, plan (taken (known c)) .inside) }
 
 element-set-from-next-2 : tie.Need-element-set-from-next-2 Inv-loop μ-loop Inv-loop2 μ-loop2 Inv-loop3 μ-loop3 Inv-loop4 μ-loop4
 element-set-from-next-2 c = plan (taken (known c)) .inside
@@ -372,8 +365,8 @@ mul-next-2 c = search needs
 element-copy-out-next-2 : tie.Need-element-copy-out-next-2 Inv-loop μ-loop Inv-loop2 μ-loop2 Inv-loop3 μ-loop3 Inv-loop4 μ-loop4
 element-copy-out-next-2 c = search needs
 
-mul-t66 : tie.Need-mul-t66 Inv-loop μ-loop Inv-loop2 μ-loop2 Inv-loop3 μ-loop3 Inv-loop4 μ-loop4
-mul-t66 c = search needs
+mul-t64 : tie.Need-mul-t64 Inv-loop μ-loop Inv-loop2 μ-loop2 Inv-loop3 μ-loop3 Inv-loop4 μ-loop4
+mul-t64 c = search needs
 
 element-set-from-next-3 : tie.Need-element-set-from-next-3 Inv-loop μ-loop Inv-loop2 μ-loop2 Inv-loop3 μ-loop3 Inv-loop4 μ-loop4
 element-set-from-next-3 c = search needs
@@ -441,8 +434,8 @@ mul-next-3 c = search needs
 element-copy-out-next-3 : tie.Need-element-copy-out-next-3 Inv-loop μ-loop Inv-loop2 μ-loop2 Inv-loop3 μ-loop3 Inv-loop4 μ-loop4
 element-copy-out-next-3 c = search needs
 
-mul-t76 : tie.Need-mul-t76 Inv-loop μ-loop Inv-loop2 μ-loop2 Inv-loop3 μ-loop3 Inv-loop4 μ-loop4
-mul-t76 c = search needs
+mul-t74 : tie.Need-mul-t74 Inv-loop μ-loop Inv-loop2 μ-loop2 Inv-loop3 μ-loop3 Inv-loop4 μ-loop4
+mul-t74 c = search needs
 
 element-set-from-next-4 : tie.Need-element-set-from-next-4 Inv-loop μ-loop Inv-loop2 μ-loop2 Inv-loop3 μ-loop3 Inv-loop4 μ-loop4
 element-set-from-next-4 c = search needs
@@ -531,7 +524,6 @@ edit-spec =
     μ-loop3
     Inv-loop4
     μ-loop4
-    step-of-requires
     held-requires
     loop-holds
     mul-if1
@@ -545,14 +537,13 @@ edit-spec =
     element-copy-out-newest
     mul-waiting
     element-copy-out-waiting
-    sound-by-requires
-    first-refusal-requires
+    judged-requires
     returns
     loop2-holds
     add-next
     mul-next
     element-copy-out-next
-    mul-t50
+    mul-t48
     element-set-from-next
     add-m
     loop2-less
@@ -565,14 +556,14 @@ edit-spec =
     element-copy-out-old
     row-chosen-requires
     inverse-of-requires
-    mul-t36
+    mul-t34
     element-set-from-next-2
     sub-last
     loop3-holds
     add-next-2
     mul-next-2
     element-copy-out-next-2
-    mul-t66
+    mul-t64
     element-set-from-next-3
     add-j
     loop3-less
@@ -582,7 +573,7 @@ edit-spec =
     sub-next
     mul-next-3
     element-copy-out-next-3
-    mul-t76
+    mul-t74
     element-set-from-next-4
     sub-k
     loop4-less
