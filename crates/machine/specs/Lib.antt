@@ -8,3 +8,4 @@ pub mod StepLaws
 pub mod SimulationLaws
 pub mod UndoLaws
 pub mod RedoLaws
+pub mod MachineCases

@@ -1,3 +1,4 @@
 pub mod Journal
 pub mod StepLayer
 pub mod StepLaws
+pub mod JournalCases
