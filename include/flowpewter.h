@@ -19,10 +19,10 @@
  * even if the call is refused or ignores them. No slice that a call writes may overlap another slice of the call.
  *
  * Stack. Boards are passed and returned by value, and working space is on the stack. No call takes 256 KB of it.
- * Measured by tests/stack.c: a replay 123 KB, a build 107 KB, an edit 102 KB, flowpewter_empty 61 KB, flowpewter_sound
- * 49 KB, any other call next to nothing; a board in a variable of your own is 25 KB more. The usual 8 MB of a Linux
- * thread is plenty. A thread with a small stack is not: musl gives 128 KiB where nothing is said, and a build beside a
- * board of your own would run over its end. There, ask for 512 KB by pthread_attr_setstacksize.
+ * Measured by tests/stack.c: a replay 144 KB, an edit 118 KB, a build 111 KB, flowpewter_sound 58 KB, flowpewter_empty
+ * 29 KB, any other call next to nothing; a board in a variable of your own is 29 KB more. The usual 8 MB of a Linux
+ * thread is plenty. A thread with a small stack is not: musl gives 128 KiB where nothing is said, and an edit or a build
+ * beside a board of your own would run over its end. There, ask for 512 KB by pthread_attr_setstacksize.
  *
  * Comparing boards. Two boards are the same when their counts, their first `count` rows, their kept and undone numbers
  * and their first `kept + undone` journal entries are; of an entry that takes a row out, `row` isn't read and doesn't

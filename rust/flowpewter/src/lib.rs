@@ -9,8 +9,8 @@
 //!
 //! Every call takes every argument: what can't be done is refused, by a [`Refusal`], and never a panic.
 //!
-//! Boards are passed by value and working space is on the stack: a replay takes some 125 KB of it, a build or an edit
-//! up to 110 KB, and a board in a variable is 25 KB more. That is little for the 2 MB of a Rust thread; a thread made with
+//! Boards are passed by value and working space is on the stack: a replay takes some 145 KB of it, a build or an edit
+//! up to 120 KB, and a board in a variable is 29 KB more. That is little for the 2 MB of a Rust thread; a thread made with
 //! `Builder::stack_size` wants 512 KB. The library that is linked is compiled for x86-64 Linux alone.
 #![deny(unsafe_code)]
 
