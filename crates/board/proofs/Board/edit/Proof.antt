@@ -142,6 +142,10 @@ moved-board c =
 rows-same : (c : Moved) → c .before .loop2 .next .rows ≡ self (c .before .before .before) .rows
 rows-same c = ap (λ (x : Board). x .rows) (moved-board c)
 
+-- the board whose tape has moved
+abbrev next : Known → Board
+next c = c .before .before .before .before .before .loop2 .next
+
 abbrev taken : Known → Taken
 taken c = c .before .before .before .before .before .before
 
@@ -182,13 +186,13 @@ back-is : (c : Turned) → c .inverse-of .result ≡ inverse (operation (self (t
 back-is c =
     let k = known c in
     let b = self (taken k .before) in
-    let old : getD (k .before .before .before .before .before .loop2 .next .rows) (found k .at) blank ≡ getD (b .rows) (found k .at) blank = ap (λ (p : List Row). getD p (found k .at) blank) (rows-same (k .before .before .before .before)) in
+    let old : getD (next k .rows) (found k .at) blank ≡ getD (b .rows) (found k .at) blank = ap (λ (p : List Row). getD p (found k .at) blank) (rows-same (k .before .before .before .before)) in
     c .inverse-of .ensures
     ∙ (λ i. cond (eqb (found k .kind) 0) (record { kind = 1; at = found k .at; row = old i }) (cond (eqb (found k .kind) 1) (record { kind = 0; at = found k .at; row = row-is c i }) (record { kind = 2; at = found k .at; row = old i })))
     ∙ turned b (entry k) (whole k) (small k) (can k)
     ∙ ap (λ (e : Entry). inverse e (rowsOf b)) (is k)
 
-long-rows : (c : Turned) → length (known c .before .before .before .before .before .loop2 .next .rows) ≡ 1024
+long-rows : (c : Turned) → length (next (known c) .rows) ≡ 1024
 long-rows c = ap (λ (p : List Row). length p) (rows-same (known c .before .before .before .before)) ∙ whole (known c)
 
 -- the board that the call leaves, from its rows
@@ -196,16 +200,16 @@ left : (c : Turned) (n : ℕ) (f : List Row → List Row) → n ≡ length (carr
     → f (self (taken (known c) .before) .rows) ≡ front (carried (entry (known c)) (rowsOf (self (taken (known c) .before)))) (self (taken (known c) .before) .rows)
     → _≡_ {A = Board} (record {
       count = n;
-      rows = f (known c .before .before .before .before .before .loop2 .next .rows);
+      rows = f (next (known c) .rows);
       kept = step (taken (known c) .before) .kept;
       undone = step (taken (known c) .before) .undone;
-      journal = set (known c .before .before .before .before .before .loop2 .next .journal) (step (taken (known c) .before) .place) (c .inverse-of .result);
+      journal = set (next (known c) .journal) (step (taken (known c) .before) .place) (c .inverse-of .result);
     })
     (boardAfter (self (taken (known c) .before)) (call (taken (known c) .before)))
 left c n f hn hf =
     let k = known c in
     let b = self (taken k .before) in
-    finished b (k .before .before .before .before .before .loop2 .next) (call (taken k .before)) (step (taken k .before)) (plan (taken k)) (moved-board (k .before .before .before .before)) n f (c .inverse-of .result)
+    finished b (next k) (call (taken k .before)) (step (taken k .before)) (plan (taken k)) (moved-board (k .before .before .before .before)) n f (c .inverse-of .result)
     (hn ∙ ap (λ (e : Entry). length (carried e (rowsOf b))) (is k)) (hf ∙ ap (λ (e : Entry). front (carried e (rowsOf b)) (b .rows)) (is k)) (back-is c)
 
 -- ---- the needs
@@ -347,7 +351,7 @@ loop3-holds c =
     let k = known (c .before) in
     let b = self (taken k .before) in
     let o : found k .at < b .count = at-place b (entry k) (whole k) (small k) (can k) (λ h. omega (arith, h, c .if3 .taken)) in
-    let x = k .before .before .before .before .before .loop2 .next in
+    let x = next k in
     let s = step (taken k .before) in (
       omega arith,
       omega (arith, o),
@@ -383,7 +387,7 @@ loop3-again c =
     let v = l .inv in
     let q = c .before .before .before .before in
     let k = known q in
-    let x = k .before .before .before .before .before .loop2 .next in
+    let x = next k in
     let s = step (taken k .before) in
     let h : suc (l .j) < length (x .rows) = omega (arith, v .2, v .3, c .before .loop3-test .taken) in (
       omega arith,
@@ -400,7 +404,7 @@ returns-2 c =
     let q = c .before .before .before in
     let k = known q in
     let b = self (taken k .before) in
-    let x = k .before .before .before .before .before .loop2 .next in
+    let x = next k in
     let s = step (taken k .before) in
     let k₀ = c .before .before .if3 .taken in
     let k₁ : found k .kind ≡ 1 → ⊥ = λ h. omega (arith, h, k₀) in
@@ -416,7 +420,7 @@ loop4-holds c =
     let q = c .before .before in
     let k = known q in
     let b = self (taken k .before) in
-    let x = k .before .before .before .before .before .loop2 .next in
+    let x = next k in
     let s = step (taken k .before) in (
       in-place b (entry k) (whole k) (small k) (can k) (c .if4 .taken),
       omega arith,
@@ -453,7 +457,7 @@ loop4-again c =
     let q = c .before .before .before .before .before in
     let k = known q in
     let b = self (taken k .before) in
-    let x = k .before .before .before .before .before .loop2 .next in
+    let x = next k in
     let s = step (taken k .before) in (
       omega arith,
       omega arith,
@@ -478,7 +482,7 @@ returns-3 c =
     let q = c .before .before .before .before in
     let k = known q in
     let b = self (taken k .before) in
-    let x = k .before .before .before .before .before .loop2 .next in
+    let x = next k in
     let s = step (taken k .before) in
     let k₁ = c .before .before .if4 .taken in
     let row = q .before .row-chosen .result in
@@ -504,7 +508,7 @@ returns-4 c =
     let row = q .before .row-chosen .result in
     let k₁ = c .if4 .left in
     let k₀ = c .before .if3 .left in
-    let x = k .before .before .before .before .before .loop2 .next in
+    let x = next k in
     let s = step (taken k .before) in
     let made =
     ap (λ (n : ℕ). record { count = n; rows = set (x .rows) (found k .at) row; kept = s .kept; undone = s .undone; journal = set (x .journal) (s .place) (q .inverse-of .result) }) (ap (λ (y : Board). y .count) (moved-board (k .before .before .before .before)))
