@@ -33,9 +33,9 @@ pub enum Call {
     Redo,
 }
 
-// What a call does: the number that refuses it where the board is sound, how many places of the tape move up by one, the place where
-// the inverse of its entry goes, the kept and undone numbers afterwards, and its entry. That is the one on the tape where it is
-// `taped`; of the row of one that `remarks` the minutes alone count.
+// What a call does: the number that refuses it, 0 for none; how many places of the tape move up by one; the place where the inverse of
+// its entry goes; the kept and undone numbers afterwards; and its entry. Where that is `taped` it is the one found at the place, else
+// `entry`; of the row of one that `remarks` the minutes alone count.
 pub struct Step {
     pub refusal: u32,
     pub moves: usize,
