@@ -15,43 +15,43 @@ use Rattle.lists.specs.MoveLaws.{movedUp, moved-up-start}
 use Rattle.rows.specs.declared.Row.{Row}
 use Rattle.rows.specs.declared.Entry.{Entry}
 use Rattle.board.specs.declared.Board.{Board}
-use Rattle.rows.specs.declared.Step.{Step}
+use Rattle.rows.specs.declared.Plan.{Plan}
 use Rattle.rows.specs.declared.Call.{Call}
 use Rattle.rows.specs.declared.Call.the-variants.{Add, Withdraw, Remark, Undo, Redo}
 use Rattle.rows.specs.Journal.{carried, inverse, pushed, blank, noEntry, noRow, remarked}
 use Rattle.board.specs.Edits.{rowsOf, keptOf, undoneOf, newestOf, nextOf, soundOf, addRefusal, rowRefusal, undoRefusal, redoRefusal}
-use Rattle.rows.specs.StepLayer.{few, room, moved, named, chosen, newRow, editStep, stepOf, judgedStep}
-use Rattle.rows.specs.StepLaws.{few-le, room-less}
+use Rattle.rows.specs.PlanLayer.{atMost256, roomAfter, movesFor, placeNamed, entryChosen, rowChosen, editPlan, planOf, judgedPlan}
+use Rattle.rows.specs.PlanLaws.{few-le, room-less}
 use Rattle.board.specs.Laws.{sound-count, sound-kept, sound-undone}
 use Rattle.board.specs.OperationLaws.{refusalBy, operation, keptAfter, undoneAfter, boardAfter, row-there}
 use Rattle.board.proofs.Tape.{store-front, shift-front}
 
 -- ---- the numbers
 
-few-is : (n : ℕ) → n ≤ 256 → few n ≡ n
-unfolding few
+few-is : (n : ℕ) → n ≤ 256 → atMost256 n ≡ n
+unfolding atMost256
 few-is n h = simp (le-leb n 256 h)
 
-named-is : (n : ℕ) → n ≤ 1024 → named n ≡ n
-unfolding named
+named-is : (n : ℕ) → n ≤ 1024 → placeNamed n ≡ n
+unfolding placeNamed
 named-is n h = simp (le-leb n 1024 h)
 
-moved-less : (kept along : ℕ) → along ≤ 256 → moved kept along < 512
-unfolding moved
+moved-less : (kept along : ℕ) → along ≤ 256 → movesFor kept along < 512
+unfolding movesFor
 moved-less kept along h = go (ltb kept 256) where
   go : (t : Bool) → cond t 0 (255 + along) < 512
   go true = omega arith
   go false = omega arith
 
 -- the number that refuses is the definition's
-pub refusal-is : (b : Board) (c : Call) → cond (soundOf b) (stepOf c (b .count) (b .kept) (b .undone) .refusal) 1 ≡ refusalBy b c
-unfolding stepOf editStep addRefusal rowRefusal undoRefusal redoRefusal
+pub refusal-is : (b : Board) (c : Call) → cond (soundOf b) (planOf c (b .count) (b .kept) (b .undone) .refusal) 1 ≡ refusalBy b c
+unfolding planOf editPlan addRefusal rowRefusal undoRefusal redoRefusal
 refusal-is b c = go c where
   flipped : (t : Bool) (y : ℕ) → cond t y 1 ≡ cond (not t) 1 y
   flipped true y = refl
   flipped false y = refl
 
-  go : (c : Call) → cond (soundOf b) (stepOf c (b .count) (b .kept) (b .undone) .refusal) 1 ≡ refusalBy b c
+  go : (c : Call) → cond (soundOf b) (planOf c (b .count) (b .kept) (b .undone) .refusal) 1 ≡ refusalBy b c
   go (Add r) = flipped (soundOf b) (cond (eqb (r .numeral) 0) 2 (cond (leb 1024 (b .count)) 3 0))
   go (Withdraw k) = flipped (soundOf b) (cond (noRow (b .count) k) 4 0)
   go (Remark k minutes) = flipped (soundOf b) (cond (noRow (b .count) k) 4 0)
@@ -71,9 +71,9 @@ module _ (b : Board) (m : ℕ) (l : length (b .journal) ≡ 512) (k : b .kept �
       ap (λ (x : List Entry). drop 1 (take (suc r) x)) (drop-cons (b .journal) (b .kept) noEntry (omega arith))
       ∙ ap (λ (i : ℕ). take i (drop (suc (b .kept)) (b .journal))) e
 
-  pub push-tape : (e : Entry) → (room (b .kept) + 1 ≡ length (pushed (keptOf b) e))
-      × (set (movedUp (b .journal) 0 (moved (b .kept) m)) (room (b .kept)) e ≡ front (pushed (keptOf b) e ++ drop 1 (take m (drop (b .kept) (b .journal)))) (b .journal))
-  unfolding pushed room moved
+  pub push-tape : (e : Entry) → (roomAfter (b .kept) + 1 ≡ length (pushed (keptOf b) e))
+      × (set (movedUp (b .journal) 0 (movesFor (b .kept) m)) (roomAfter (b .kept)) e ≡ front (pushed (keptOf b) e ++ drop 1 (take m (drop (b .kept) (b .journal)))) (b .journal))
+  unfolding pushed roomAfter movesFor
   push-tape e = go (ltb (b .kept) 256) refl where
     go : (t : Bool) → ltb (b .kept) 256 ≡ t → (cond t (b .kept) 255 + 1 ≡ length (pushed (keptOf b) e))
         × (set (movedUp (b .journal) 0 (cond t 0 (255 + m))) (cond t (b .kept) 255) e ≡ front (pushed (keptOf b) e ++ drop 1 (take m (drop (b .kept) (b .journal)))) (b .journal))
@@ -98,22 +98,22 @@ module _ (b : Board) (m : ℕ) (l : length (b .journal) ≡ 512) (k : b .kept �
 
 -- ---- a call that nothing refuses: s is what it does
 
-pub record Planned (b : Board) (c : Call) (s : Step) : Type 0 where
+pub record Planned (b : Board) (c : Call) (s : Plan) : Type 0 where
   pub few-moves : s .moves < 512
   pub inside : s .place < 512
-  pub done : (e : Entry) → e ≡ chosen (s .taped) (getD (movedUp (b .journal) 0 (s .moves)) (s .place) noEntry) (s .entry)
-      → _≡_ {A = Entry} (record { kind = e .kind; at = e .at; row = newRow (s .remarks) (e .row) (getD (b .rows) (e .at) blank) }) (operation b c)
+  pub done : (e : Entry) → e ≡ entryChosen (s .taped) (getD (movedUp (b .journal) 0 (s .moves)) (s .place) noEntry) (s .entry)
+      → _≡_ {A = Entry} (record { kind = e .kind; at = e .at; row = rowChosen (s .remarks) (e .row) (getD (b .rows) (e .at) blank) }) (operation b c)
   pub kept-after : s .kept ≡ length (keptAfter b c)
   pub undone-after : s .undone ≡ length (undoneAfter b c)
   pub tape : set (movedUp (b .journal) 0 (s .moves)) (s .place) (inverse (operation b c) (rowsOf b)) ≡ front (keptAfter b c ++ undoneAfter b c) (b .journal)
 
 module _ (b : Board) (lj : length (b .journal) ≡ 512) (s : soundOf b ≡ true) where
   -- an edit, whose entry is given
-  edit-tape : (e : Entry) → (room (b .kept) + 1 ≡ length (pushed (keptOf b) e)) × (set (movedUp (b .journal) 0 (moved (b .kept) 0)) (room (b .kept)) e ≡ front (pushed (keptOf b) e ++ []) (b .journal))
+  edit-tape : (e : Entry) → (roomAfter (b .kept) + 1 ≡ length (pushed (keptOf b) e)) × (set (movedUp (b .journal) 0 (movesFor (b .kept) 0)) (roomAfter (b .kept)) e ≡ front (pushed (keptOf b) e ++ []) (b .journal))
   edit-tape e = push-tape b 0 lj (sound-kept b s) (omega arith) e
 
-  planned-add : (r : Row) → Planned b (Add r) (stepOf (Add r) (b .count) (b .kept) (b .undone))
-  unfolding stepOf editStep chosen newRow
+  planned-add : (r : Row) → Planned b (Add r) (planOf (Add r) (b .count) (b .kept) (b .undone))
+  unfolding planOf editPlan entryChosen rowChosen
   planned-add r =
       let t = edit-tape (inverse (operation b (Add r)) (rowsOf b)) in
       let a = named-is (b .count) (sound-count b s) in
@@ -126,8 +126,8 @@ module _ (b : Board) (lj : length (b .journal) ≡ 512) (s : soundOf b ≡ true)
         tape = t .1;
       }
 
-  planned-withdraw : (k : ℕ) → k ≤ b .count → Planned b (Withdraw k) (stepOf (Withdraw k) (b .count) (b .kept) (b .undone))
-  unfolding stepOf editStep chosen newRow
+  planned-withdraw : (k : ℕ) → k ≤ b .count → Planned b (Withdraw k) (planOf (Withdraw k) (b .count) (b .kept) (b .undone))
+  unfolding planOf editPlan entryChosen rowChosen
   planned-withdraw k h =
       let t = edit-tape (inverse (operation b (Withdraw k)) (rowsOf b)) in
       let a = named-is (k - 1) (omega (arith, sound-count b s)) in
@@ -140,8 +140,8 @@ module _ (b : Board) (lj : length (b .journal) ≡ 512) (s : soundOf b ≡ true)
         tape = t .1;
       }
 
-  planned-remark : (k : ℕ) (m : ℤ) → k ≤ b .count → Planned b (Remark k m) (stepOf (Remark k m) (b .count) (b .kept) (b .undone))
-  unfolding stepOf editStep chosen newRow
+  planned-remark : (k : ℕ) (m : ℤ) → k ≤ b .count → Planned b (Remark k m) (planOf (Remark k m) (b .count) (b .kept) (b .undone))
+  unfolding planOf editPlan entryChosen rowChosen
   planned-remark k m h =
       let t = edit-tape (inverse (operation b (Remark k m)) (rowsOf b)) in
       let a = named-is (k - 1) (omega (arith, sound-count b s)) in
@@ -189,8 +189,8 @@ module _ (b : Board) (lj : length (b .journal) ≡ 512) (s : soundOf b ≡ true)
         let c : length (take 255 (drop (b .kept) (b .journal))) ≡ 255 = length-take-le 255 (drop (b .kept) (b .journal)) (omega (arith, d, sound-kept b s)) in
         (omega (arith, ap length a, c), more 255 a (omega (arith, sound-kept b s, some)))
 
-    planned-undo : Planned b Undo (stepOf Undo (b .count) (b .kept) (b .undone))
-    unfolding stepOf chosen newRow back
+    planned-undo : Planned b Undo (planOf Undo (b .count) (b .kept) (b .undone))
+    unfolding planOf entryChosen rowChosen back
     planned-undo =
         let u = undone-more (ltb (b .undone) 256) refl in
         record {
@@ -219,8 +219,8 @@ module _ (b : Board) (lj : length (b .journal) ≡ 512) (s : soundOf b ≡ true)
         ∙ getD-take m (b .journal) 256 noEntry (omega (arith, some-undone))
         ∙ ap (λ (i : ℕ). getD (b .journal) i noEntry) (sym k)
 
-    found : getD (movedUp (b .journal) 0 (moved (b .kept) (b .undone))) (room (b .kept)) noEntry ≡ nextOf b
-    unfolding moved room
+    found : getD (movedUp (b .journal) 0 (movesFor (b .kept) (b .undone))) (roomAfter (b .kept)) noEntry ≡ nextOf b
+    unfolding movesFor roomAfter
     found = go (ltb (b .kept) 256) refl where
       go : (t : Bool) → ltb (b .kept) 256 ≡ t → getD (movedUp (b .journal) 0 (cond t 0 (255 + b .undone))) (cond t (b .kept) 255) noEntry ≡ nextOf b
       go true f = ap (λ (j : List Entry). getD j (b .kept) noEntry) (sym (moved-up-start (b .journal) 0))
@@ -231,24 +231,24 @@ module _ (b : Board) (lj : length (b .journal) ≡ 512) (s : soundOf b ≡ true)
         let d : length (drop (b .kept) (b .journal)) ≡ 512 - b .kept = length-drop (b .kept) (b .journal) ∙ ap (λ (k : ℕ). k - b .kept) lj in
         sym (length-drop 1 (undoneOf b) ∙ ap (λ (k : ℕ). k - 1) (length-take-le (b .undone) (drop (b .kept) (b .journal)) (omega (arith, d, sound-kept b s, sound-undone b s))))
 
-    planned-redo : Planned b Redo (stepOf Redo (b .count) (b .kept) (b .undone))
-    unfolding stepOf chosen newRow
+    planned-redo : Planned b Redo (planOf Redo (b .count) (b .kept) (b .undone))
+    unfolding planOf entryChosen rowChosen
     planned-redo =
         let f = few-is (b .undone) (sound-undone b s) in
         let t = push-tape b (b .undone) lj (sound-kept b s) (sound-undone b s) (inverse (nextOf b) (rowsOf b)) in
         record {
-          few-moves = moved-less (b .kept) (few (b .undone)) (few-le (b .undone));
+          few-moves = moved-less (b .kept) (atMost256 (b .undone)) (few-le (b .undone));
           inside = omega (arith, room-less (b .kept));
-          done = λ e h. h ∙ ap (λ (m : ℕ). getD (movedUp (b .journal) 0 (moved (b .kept) m)) (room (b .kept)) noEntry) f ∙ found;
+          done = λ e h. h ∙ ap (λ (m : ℕ). getD (movedUp (b .journal) 0 (movesFor (b .kept) m)) (roomAfter (b .kept)) noEntry) f ∙ found;
           kept-after = t .0;
           undone-after = fewer;
-          tape = ap (λ (m : ℕ). set (movedUp (b .journal) 0 (moved (b .kept) m)) (room (b .kept)) (inverse (nextOf b) (rowsOf b))) f ∙ t .1;
+          tape = ap (λ (m : ℕ). set (movedUp (b .journal) 0 (movesFor (b .kept) m)) (roomAfter (b .kept)) (inverse (nextOf b) (rowsOf b))) f ∙ t .1;
         }
 
 -- every call that nothing refuses, by its own number
-planned-by : (b : Board) (c : Call) → length (b .journal) ≡ 512 → soundOf b ≡ true → stepOf c (b .count) (b .kept) (b .undone) .refusal ≡ 0
-    → Planned b c (stepOf c (b .count) (b .kept) (b .undone))
-unfolding stepOf editStep
+planned-by : (b : Board) (c : Call) → length (b .journal) ≡ 512 → soundOf b ≡ true → planOf c (b .count) (b .kept) (b .undone) .refusal ≡ 0
+    → Planned b c (planOf c (b .count) (b .kept) (b .undone))
+unfolding planOf editPlan
 planned-by b (Add r) lj s e = planned-add b lj s r
 planned-by b (Withdraw k) lj s e = planned-withdraw b lj s k (row-there (b .count) k (cond-none (noRow (b .count) k) 4 0 (omega arith) e .0) .1)
 planned-by b (Remark k m) lj s e = planned-remark b lj s k m (row-there (b .count) k (cond-none (noRow (b .count) k) 4 0 (omega arith) e .0) .1)
@@ -256,8 +256,8 @@ planned-by b Undo lj s e = planned-undo b lj s (cond-none (eqb (b .kept) 0) 5 0 
 planned-by b Redo lj s e = planned-redo b lj s (cond-none (eqb (b .undone) 0) 17 0 (omega arith) e .0)
 
 -- the number that refuses it is nothing to the rest
-judged-planned : (b : Board) (c : Call) (t : Bool) (s : Step) → Planned b c s → Planned b c (judgedStep t s)
-unfolding judgedStep
+judged-planned : (b : Board) (c : Call) (t : Bool) (s : Plan) → Planned b c s → Planned b c (judgedPlan t s)
+unfolding judgedPlan
 judged-planned b c t s p = record {
   few-moves = p .few-moves;
   inside = p .inside;
@@ -267,13 +267,13 @@ judged-planned b c t s p = record {
   tape = p .tape;
 }
 
-pub planned : (b : Board) (c : Call) (s : Step) → length (b .journal) ≡ 512 → s ≡ judgedStep (soundOf b) (stepOf c (b .count) (b .kept) (b .undone)) → soundOf b ≡ true → s .refusal ≡ 0
+pub planned : (b : Board) (c : Call) (s : Plan) → length (b .journal) ≡ 512 → s ≡ judgedPlan (soundOf b) (planOf c (b .count) (b .kept) (b .undone)) → soundOf b ≡ true → s .refusal ≡ 0
     → Planned b c s
-unfolding judgedStep
+unfolding judgedPlan
 planned b c s lj q y e =
-    let d = stepOf c (b .count) (b .kept) (b .undone) in
-    let own : d .refusal ≡ 0 = sym (ap (λ (x : Step). x .refusal) q ∙ ap (λ (t : Bool). cond t (d .refusal) 1) y) ∙ e in
-    subst (λ (x : Step). Planned b c x) (sym q) (judged-planned b c (soundOf b) d (planned-by b c lj y own))
+    let d = planOf c (b .count) (b .kept) (b .undone) in
+    let own : d .refusal ≡ 0 = sym (ap (λ (x : Plan). x .refusal) q ∙ ap (λ (t : Bool). cond t (d .refusal) 1) y) ∙ e in
+    subst (λ (x : Plan). Planned b c x) (sym q) (judged-planned b c (soundOf b) d (planned-by b c lj y own))
 
 -- ---- the board that it leaves
 
@@ -281,7 +281,7 @@ planned b c s lj q y e =
 abbrev pub shifted : Board → ℕ → Board
 shifted b m = record { count = b .count; rows = b .rows; kept = b .kept; undone = b .undone; journal = movedUp (b .journal) 0 m }
 
-pub finished : (b x : Board) (c : Call) (s : Step) → Planned b c s → x ≡ shifted b (s .moves) → (n : ℕ) (f : List Row → List Row) (e : Entry)
+pub finished : (b x : Board) (c : Call) (s : Plan) → Planned b c s → x ≡ shifted b (s .moves) → (n : ℕ) (f : List Row → List Row) (e : Entry)
     → n ≡ length (carried (operation b c) (rowsOf b)) → f (b .rows) ≡ front (carried (operation b c) (rowsOf b)) (b .rows) → e ≡ inverse (operation b c) (rowsOf b)
     → _≡_ {A = Board} (record { count = n; rows = f (x .rows); kept = s .kept; undone = s .undone; journal = set (x .journal) (s .place) e }) (boardAfter b c)
 finished b x c s p q n f e hn hf he =

@@ -1,4 +1,4 @@
 pub mod Journal
-pub mod StepLayer
-pub mod StepLaws
+pub mod PlanLayer
+pub mod PlanLaws
 pub mod JournalCases

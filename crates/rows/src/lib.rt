@@ -5,7 +5,7 @@ ghost use Prim.Native.Nat.{_+_, _-_, _≤_};
 ghost use lib.Dec.{eqb, leb, ltb};
 ghost use Rattle.rows.specs.declared.Call.the-variants.{Add, Withdraw, Remark, Undo, Redo};
 ghost use Rattle.rows.specs.Journal.{blank, noRow, remarked};
-ghost use Rattle.rows.specs.StepLayer.{canDo, noneOr, soundBy, few, room, moved, named, chosen, newRow, editStep, stepOf, judgedStep};
+ghost use Rattle.rows.specs.PlanLayer.{canDo, noneOr, soundBy, atMost256, roomAfter, movesFor, placeNamed, entryChosen, rowChosen, editPlan, planOf, judgedPlan};
 
 // A row of the parts list: parent 0 is none, minutes below 0 are a deduction.
 #[repr(C)]
@@ -36,7 +36,7 @@ pub enum Call {
 // What a call does: the number that refuses it, 0 for none; how many places of the tape move up by one; the place where the inverse of
 // its entry goes; the kept and undone numbers afterwards; and its entry. Where that is `taped` it is the one found at the place, else
 // `entry`; of the row of one that `remarks` the minutes alone count.
-pub struct Step {
+pub struct Plan {
     pub refusal: u32,
     pub moves: usize,
     pub place: usize,
@@ -94,7 +94,7 @@ pub fn held(count: usize) -> usize
 
 // A number of entries, at most 256.
 pub fn at_most_256(n: usize) -> usize
-    ensures { λ r. ⌜ r ≡ few n ⌝ }
+    ensures { λ r. ⌜ r ≡ atMost256 n ⌝ }
 {
     if 256 < n {
         return 256;
@@ -189,7 +189,7 @@ fn first_refusal(sound: bool, other: u32) -> u32
 
 // The place for one more kept entry.
 fn room_after(kept: usize) -> usize
-    ensures { λ r. ⌜ r ≡ room kept ⌝ }
+    ensures { λ r. ⌜ r ≡ roomAfter kept ⌝ }
 {
     if kept < 256 {
         return kept;
@@ -200,7 +200,7 @@ fn room_after(kept: usize) -> usize
 // How many places of the tape move up for it; those of the undone entries move along.
 fn moves_for(kept: usize, along: usize) -> usize
     requires { ⌜ along ≤ 256 ⌝ }
-    ensures { λ r. ⌜ r ≡ moved kept along ⌝ }
+    ensures { λ r. ⌜ r ≡ movesFor kept along ⌝ }
 {
     if kept < 256 {
         return 0;
@@ -220,7 +220,7 @@ fn one_more_undone(undone: usize) -> usize
 
 // A place among the rows, as an entry has it.
 fn place_named(n: usize) -> u32
-    ensures { λ r. ⌜ r ≡ named n ⌝ }
+    ensures { λ r. ⌜ r ≡ placeNamed n ⌝ }
 {
     if 1024 < n {
         return 0;
@@ -263,11 +263,11 @@ fn entry_of(kind: u32, at: u32, row: Row) -> Entry
 }
 
 // An edit: it keeps a step and forgets those undone.
-fn edit_step(refusal: u32, kept: usize, remarks: bool, entry: Entry) -> Step
-    ensures { λ r. ⌜ r ≡ editStep refusal kept remarks entry ⌝ }
+fn edit_plan(refusal: u32, kept: usize, remarks: bool, entry: Entry) -> Plan
+    ensures { λ r. ⌜ r ≡ editPlan refusal kept remarks entry ⌝ }
 {
     let place = room_after(kept);
-    Step {
+    Plan {
         refusal: refusal,
         moves: moves_for(kept, 0),
         place: place,
@@ -279,36 +279,36 @@ fn edit_step(refusal: u32, kept: usize, remarks: bool, entry: Entry) -> Step
     }
 }
 
-fn add_step(count: usize, kept: usize, row: Row) -> Step
-    ensures { λ r. ⌜ r ≡ stepOf (Add row) count kept 0 ⌝ }
+fn add_plan(count: usize, kept: usize, row: Row) -> Plan
+    ensures { λ r. ⌜ r ≡ planOf (Add row) count kept 0 ⌝ }
 {
     let entry = entry_of(1, place_named(count), row);
-    edit_step(add_refusal(count, row), kept, false, entry)
+    edit_plan(add_refusal(count, row), kept, false, entry)
 }
 
-fn withdraw_step(count: usize, kept: usize, k: usize) -> Step
-    ensures { λ r. ⌜ r ≡ stepOf (Withdraw k) count kept 0 ⌝ }
+fn withdraw_plan(count: usize, kept: usize, k: usize) -> Plan
+    ensures { λ r. ⌜ r ≡ planOf (Withdraw k) count kept 0 ⌝ }
 {
     let entry = entry_of(0, place_named(one_less(k)), blank_row());
-    edit_step(row_refusal(count, k), kept, false, entry)
+    edit_plan(row_refusal(count, k), kept, false, entry)
 }
 
-fn remark_step(count: usize, kept: usize, k: usize, minutes: i32) -> Step
-    ensures { λ r. ⌜ r ≡ stepOf (Remark k minutes) count kept 0 ⌝ }
+fn remark_plan(count: usize, kept: usize, k: usize, minutes: i32) -> Plan
+    ensures { λ r. ⌜ r ≡ planOf (Remark k minutes) count kept 0 ⌝ }
 {
     let entry = entry_of(
         2,
         place_named(one_less(k)),
         with_minutes(blank_row(), minutes),
     );
-    edit_step(row_refusal(count, k), kept, true, entry)
+    edit_plan(row_refusal(count, k), kept, true, entry)
 }
 
-fn undo_step(kept: usize, undone: usize) -> Step
-    ensures { λ r. ⌜ r ≡ stepOf Undo 0 kept undone ⌝ }
+fn undo_plan(kept: usize, undone: usize) -> Plan
+    ensures { λ r. ⌜ r ≡ planOf Undo 0 kept undone ⌝ }
 {
     let place = one_less(kept);
-    Step {
+    Plan {
         refusal: step_refusal(kept, 5),
         moves: 0,
         place: place,
@@ -320,11 +320,11 @@ fn undo_step(kept: usize, undone: usize) -> Step
     }
 }
 
-fn redo_step(kept: usize, undone: usize) -> Step
-    ensures { λ r. ⌜ r ≡ stepOf Redo 0 kept undone ⌝ }
+fn redo_plan(kept: usize, undone: usize) -> Plan
+    ensures { λ r. ⌜ r ≡ planOf Redo 0 kept undone ⌝ }
 {
     let room = room_after(kept);
-    Step {
+    Plan {
         refusal: step_refusal(undone, 17),
         moves: moves_for(kept, at_most_256(undone)),
         place: room,
@@ -337,15 +337,15 @@ fn redo_step(kept: usize, undone: usize) -> Step
 }
 
 // What a call does on a board of so many rows, kept and undone steps.
-fn step_of(call: Call, count: usize, kept: usize, undone: usize) -> Step
-    ensures { λ r. ⌜ r ≡ stepOf call count kept undone ⌝ }
+fn plan_of(call: Call, count: usize, kept: usize, undone: usize) -> Plan
+    ensures { λ r. ⌜ r ≡ planOf call count kept undone ⌝ }
 {
     match call {
-        Call::Add(row) => add_step(count, kept, row),
-        Call::Withdraw(k) => withdraw_step(count, kept, k),
-        Call::Remark(k, minutes) => remark_step(count, kept, k, minutes),
-        Call::Undo => undo_step(kept, undone),
-        Call::Redo => redo_step(kept, undone),
+        Call::Add(row) => add_plan(count, kept, row),
+        Call::Withdraw(k) => withdraw_plan(count, kept, k),
+        Call::Remark(k, minutes) => remark_plan(count, kept, k, minutes),
+        Call::Undo => undo_plan(kept, undone),
+        Call::Redo => redo_plan(kept, undone),
     }
 }
 
@@ -358,13 +358,13 @@ pub fn judged(
     numbered: bool,
     newest: Entry,
     next: Entry,
-) -> Step
-    ensures { λ r. ⌜ r ≡ judgedStep (soundBy count kept undone numbered newest next) (stepOf call count kept undone) ⌝ }
+) -> Plan
+    ensures { λ r. ⌜ r ≡ judgedPlan (soundBy count kept undone numbered newest next) (planOf call count kept undone) ⌝ }
 {
     let sound = sound_by(count, kept, undone, numbered, newest, next);
-    let mut step = step_of(call, count, kept, undone);
-    step.refusal = first_refusal(sound, step.refusal);
-    step
+    let mut plan = plan_of(call, count, kept, undone);
+    plan.refusal = first_refusal(sound, plan.refusal);
+    plan
 }
 
 // Whether a board is sound: then a call isn't refused by 1. It is asked so because the compiler leaves `judged` a function of its own;
@@ -379,13 +379,13 @@ pub fn is_sound(
 ) -> bool
     ensures { λ r. ⌜ r ≡ soundBy count kept undone numbered newest next ⌝ }
 {
-    let step = judged(Call::Undo, count, kept, undone, numbered, newest, next);
-    step.refusal != 1
+    let plan = judged(Call::Undo, count, kept, undone, numbered, newest, next);
+    plan.refusal != 1
 }
 
 // The entry that a call carries out.
 pub fn entry_chosen(taped: bool, stored: Entry, given: Entry) -> Entry
-    ensures { λ r. ⌜ r ≡ chosen taped stored given ⌝ }
+    ensures { λ r. ⌜ r ≡ entryChosen taped stored given ⌝ }
 {
     if taped {
         return stored;
@@ -395,7 +395,7 @@ pub fn entry_chosen(taped: bool, stored: Entry, given: Entry) -> Entry
 
 // Its row.
 pub fn row_chosen(remarks: bool, row: Row, old: Row) -> Row
-    ensures { λ r. ⌜ r ≡ newRow remarks row old ⌝ }
+    ensures { λ r. ⌜ r ≡ rowChosen remarks row old ⌝ }
 {
     if remarks {
         return with_minutes(old, row.minutes);

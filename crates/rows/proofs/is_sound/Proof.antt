@@ -3,8 +3,8 @@ use mathlib.Core.Path.{_≡_, refl, ap, _∙_}
 use mathlib.Core.Bool.{Bool, true, false, cond, not}
 use lib.Dec.{eqb}
 use borrow.Author.Needs.{needs}
-use Rattle.rows.specs.declared.Step.{Step}
-use Rattle.rows.specs.StepLayer.{soundBy, stepOf, judgedStep}
+use Rattle.rows.specs.declared.Plan.{Plan}
+use Rattle.rows.specs.PlanLayer.{soundBy, planOf, judgedPlan}
 use Rattle.rows.proofs.is_sound.Statement.{statement}
 use Rattle.rows.proofs.is_sound.Tie as tie
 
@@ -18,10 +18,10 @@ judged-requires : tie.Need-judged-requires
 judged-requires c κs = search needs
 
 returns : tie.Need-returns
-unfolding judgedStep stepOf
+unfolding judgedPlan planOf
 returns c =
     let a = c .before .before .args in
-    ap (λ (s : Step). not (eqb (s .refusal) 1)) (c .before .judged .ensures) ∙ by-one (soundBy (a .count) (a .kept) (a .undone) (a .numbered) (a .newest) (a .next)) (eqb (a .kept) 0)
+    ap (λ (s : Plan). not (eqb (s .refusal) 1)) (c .before .judged .ensures) ∙ by-one (soundBy (a .count) (a .kept) (a .undone) (a .numbered) (a .newest) (a .next)) (eqb (a .kept) 0)
 
 pub is-sound-spec : {M : Type 1} → statement M
 is-sound-spec = tie.close (tie.spec judged-requires returns)

@@ -1,23 +1,23 @@
 -- `rows::judged` meets its contract. Assumes nothing.
 use mathlib.Core.Path.{_∙_}
 use borrow.Author.Needs.{needs}
-use Rattle.rows.specs.StepLayer.{judgedStep}
+use Rattle.rows.specs.PlanLayer.{judgedPlan}
 use Rattle.rows.proofs.judged.Statement.{statement}
 use Rattle.rows.proofs.judged.Tie as tie
 
 sound-by-requires : tie.Need-sound-by-requires
 sound-by-requires c κs = search needs
 
-step-of-requires : tie.Need-step-of-requires
-step-of-requires c κs = search needs
+plan-of-requires : tie.Need-plan-of-requires
+plan-of-requires c κs = search needs
 
 first-refusal-requires : tie.Need-first-refusal-requires
 first-refusal-requires c κs = search needs
 
 returns : tie.Need-returns
-unfolding judgedStep
+unfolding judgedPlan
 returns c =
-    let s = c .before .step-of .result in
+    let s = c .before .plan-of .result in
     (λ i. record {
       refusal = c .first-refusal .ensures i;
       moves = s .moves;
@@ -28,7 +28,7 @@ returns c =
       remarks = s .remarks;
       entry = s .entry;
     })
-    ∙ (λ i. judgedStep (c .before .before .sound-by .ensures i) (c .before .step-of .ensures i))
+    ∙ (λ i. judgedPlan (c .before .before .sound-by .ensures i) (c .before .plan-of .ensures i))
 
 pub judged-spec : {M : Type 1} → statement M
-judged-spec = tie.close (tie.spec sound-by-requires step-of-requires first-refusal-requires returns)
+judged-spec = tie.close (tie.spec sound-by-requires plan-of-requires first-refusal-requires returns)

@@ -1,15 +1,15 @@
 -- `rows::room_after` meets its contract. Assumes nothing.
 use borrow.Author.Tests.{lt-ltb, le-ltb}
-use Rattle.rows.specs.StepLayer.{room}
+use Rattle.rows.specs.PlanLayer.{roomAfter}
 use Rattle.rows.proofs.room_after.Statement.{statement}
 use Rattle.rows.proofs.room_after.Tie as tie
 
 returns : tie.Need-returns
-unfolding room
+unfolding roomAfter
 returns c = simp (lt-ltb _ _ (c .if1 .taken))
 
 returns-2 : tie.Need-returns-2
-unfolding room
+unfolding roomAfter
 returns-2 c = simp (le-ltb _ _ (c .if1 .left))
 
 pub room-after-spec : {M : Type 1} → statement M

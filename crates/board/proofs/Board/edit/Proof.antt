@@ -17,16 +17,16 @@ use Rattle.lists.specs.MoveLaws.{movedUp, moved-up-start, moved-up-step, movedD
 use Rattle.rows.specs.declared.Row.{Row}
 use Rattle.rows.specs.declared.Entry.{Entry}
 use Rattle.board.specs.declared.Board.{Board}
-use Rattle.rows.specs.declared.Step.{Step}
+use Rattle.rows.specs.declared.Plan.{Plan}
 use Rattle.rows.specs.declared.Call.{Call}
 use Rattle.rows.specs.Journal.{allNumbered, carried, inverse, doable, blank, noEntry}
 use Rattle.board.specs.Edits.{rowsOf, soundOf}
-use Rattle.rows.specs.StepLayer.{chosen, newRow, stepOf, judgedStep}
+use Rattle.rows.specs.PlanLayer.{entryChosen, rowChosen, planOf, judgedPlan}
 use Rattle.board.specs.Laws.{sound-count}
 use Rattle.board.specs.OperationLaws.{refusalBy, operation, boardAfter, edit-refused, Carries, edit-carries}
 use Rattle.board.proofs.Sound.{turn, sound-test}
 use Rattle.board.proofs.Entries.{in-place, in-room, in-count, in-rows, at-place, out-count, out-rows, set-count, set-rows, turned, place-below}
-use Rattle.rows.specs.StepLaws.{few-le}
+use Rattle.rows.specs.PlanLaws.{few-le}
 use Rattle.board.proofs.Steps.{refusal-is, Planned, planned, shifted, finished}
 use Rattle.board.proofs.Board.edit.Statement.{statement}
 use Rattle.board.proofs.Board.edit.Tie as tie
@@ -97,7 +97,7 @@ self c = start c .args .self
 abbrev call : Refused → Call
 call c = start c .args .call
 
-abbrev step : Refused → Step
+abbrev step : Refused → Plan
 step c = c .before .judged .result
 
 long : (c : tie.Start Inv-loop μ-loop Inv-loop2 μ-loop2 Inv-loop3 μ-loop3 Inv-loop4 μ-loop4) → (length (c .args .self .rows) ≡ 1024) × (length (c .args .self .journal) ≡ 512)
@@ -108,20 +108,20 @@ front-le : (c : tie.After-one-less Inv-loop μ-loop Inv-loop2 μ-loop2 Inv-loop3
 front-le c = rw (c .before .at-most-256 .ensures) (few-le (c .before .before .before .before .before .args .self .kept))
 
 -- what the call does, by the board's own soundness
-judged-is : (c : Refused) → step c ≡ judgedStep (soundOf (self c)) (stepOf (call c) (self c .count) (self c .kept) (self c .undone))
+judged-is : (c : Refused) → step c ≡ judgedPlan (soundOf (self c)) (planOf (call c) (self c .count) (self c .kept) (self c .undone))
 judged-is c =
     let o = c .before .before .before .before in
     let l = o .before .before .before .loop in
     let held = o .before .before .before .before .held in
     let e : l .i ≡ held .result = omega (arith, o .before .before .loop-test .left, l .inv .0) in
     c .before .judged .ensures
-    ∙ ap (λ (t : Bool). judgedStep t (stepOf (call c) (self c .count) (self c .kept) (self c .undone)))
+    ∙ ap (λ (t : Bool). judgedPlan t (planOf (call c) (self c .count) (self c .kept) (self c .undone)))
     (sound-test (self c) (held .result) (o .one-less .result) (o .before .at-most-256 .result) (l .inv .2) (held .ensures .1) (o .before .at-most-256 .ensures) (o .one-less .ensures) (l .numbered)
     (l .inv .3 ∙ simp (e, slice-empty (held .result) (self c .rows), and-true)))
 
 refused-by : (c : Refused) → step c .refusal ≡ refusalBy (self c) (call c)
-unfolding judgedStep
-refused-by c = ap (λ (s : Step). s .refusal) (judged-is c) ∙ refusal-is (self c) (call c)
+unfolding judgedPlan
+refused-by c = ap (λ (s : Plan). s .refusal) (judged-is c) ∙ refusal-is (self c) (call c)
 
 -- nothing refuses
 carries : (c : Taken) → Carries (self (c .before)) (call (c .before))
@@ -154,12 +154,12 @@ found c = c .before .entry-chosen .result
 
 -- the entry, with the row that counts
 abbrev entry : Known → Entry
-entry c = record { kind = found c .kind; at = found c .at; row = newRow (step (taken c .before) .remarks) (found c .row) (getD (self (taken c .before) .rows) (found c .at) blank) }
+entry c = record { kind = found c .kind; at = found c .at; row = rowChosen (step (taken c .before) .remarks) (found c .row) (getD (self (taken c .before) .rows) (found c .at) blank) }
 
 is : (c : Known) → entry c ≡ operation (self (taken c .before)) (call (taken c .before))
 is c =
     let s = step (taken c .before) in
-    plan (taken c) .done (found c) (c .before .entry-chosen .ensures ∙ ap (λ (x : Board). chosen (s .taped) (getD (x .journal) (s .place) noEntry) (s .entry)) (moved-board (c .before .before .before .before)))
+    plan (taken c) .done (found c) (c .before .entry-chosen .ensures ∙ ap (λ (x : Board). entryChosen (s .taped) (getD (x .journal) (s .place) noEntry) (s .entry)) (moved-board (c .before .before .before .before)))
 
 can : (c : Known) → doable (entry c) (rowsOf (self (taken c .before))) ≡ true
 can c = ap (λ (e : Entry). doable e (rowsOf (self (taken c .before)))) (is c) ∙ carries (taken c) .can
@@ -179,7 +179,7 @@ known c = c .before .before .before .before
 row-is : (c : Turned) → c .before .row-chosen .result ≡ entry (known c) .row
 row-is c =
     let k = known c in
-    c .before .row-chosen .ensures ∙ ap (λ (p : List Row). newRow (step (taken k .before) .remarks) (found k .row) (getD p (found k .at) blank)) (rows-same (k .before .before .before .before))
+    c .before .row-chosen .ensures ∙ ap (λ (p : List Row). rowChosen (step (taken k .before) .remarks) (found k .row) (getD p (found k .at) blank)) (rows-same (k .before .before .before .before))
 
 -- the inverse is that of the call's entry
 back-is : (c : Turned) → c .inverse-of .result ≡ inverse (operation (self (taken (known c) .before)) (call (taken (known c) .before))) (rowsOf (self (taken (known c) .before)))

@@ -4,7 +4,7 @@ use mathlib.Core.Bool.{Bool, true, false, cond, _&&_, _||_}
 use lib.Dec.{eqb, leb, ltb}
 use Rattle.rows.specs.declared.Row.{Row}
 use Rattle.rows.specs.declared.Entry.{Entry}
-use Rattle.rows.specs.declared.Step.{Step}
+use Rattle.rows.specs.declared.Plan.{Plan}
 use Rattle.rows.specs.declared.Call.{Call}
 use Rattle.rows.specs.declared.Call.the-variants.{Add, Withdraw, Remark, Undo, Redo}
 use Rattle.rows.specs.Journal.{blank, noEntry, noRow, remarked}
@@ -27,34 +27,34 @@ soundBy count kept undone numbered newest next =
     leb count 1024 && (leb kept 256 && (leb undone 256 && (numbered && (noneOr kept newest count && noneOr undone next count))))
 
 -- a number of entries, at most 256
-unfoldable pub few : ℕ → ℕ
-few n = cond (leb n 256) n 256
+unfoldable pub atMost256 : ℕ → ℕ
+atMost256 n = cond (leb n 256) n 256
 
 -- where one more kept entry goes, and how many places of the tape move up by one before it: the oldest of 256 is dropped, and the entries after the kept ones move along
-unfoldable pub room : ℕ → ℕ
-room kept = cond (ltb kept 256) kept 255
+unfoldable pub roomAfter : ℕ → ℕ
+roomAfter kept = cond (ltb kept 256) kept 255
 
-unfoldable pub moved : ℕ → ℕ → ℕ
-moved kept along = cond (ltb kept 256) 0 (255 + along)
+unfoldable pub movesFor : ℕ → ℕ → ℕ
+movesFor kept along = cond (ltb kept 256) 0 (255 + along)
 
 -- a place among the rows that a call names
-unfoldable pub named : ℕ → ℕ
-named n = cond (leb n 1024) n 0
+unfoldable pub placeNamed : ℕ → ℕ
+placeNamed n = cond (leb n 1024) n 0
 
 -- the entry that a call carries out: the one on the tape, or the one given; and its row, of which a remark takes the minutes alone
-unfoldable pub chosen : Bool → Entry → Entry → Entry
-chosen taped stored given = cond taped stored given
+unfoldable pub entryChosen : Bool → Entry → Entry → Entry
+entryChosen taped stored given = cond taped stored given
 
-unfoldable pub newRow : Bool → Row → Row → Row
-newRow remarks row old = cond remarks (remarked old (row .minutes)) row
+unfoldable pub rowChosen : Bool → Row → Row → Row
+rowChosen remarks row old = cond remarks (remarked old (row .minutes)) row
 
 -- an edit: it keeps a step and forgets those undone
-unfoldable pub editStep : ℕ → ℕ → Bool → Entry → Step
-editStep refusal kept remarks entry = record {
+unfoldable pub editPlan : ℕ → ℕ → Bool → Entry → Plan
+editPlan refusal kept remarks entry = record {
   refusal = refusal;
-  moves = moved kept 0;
-  place = room kept;
-  kept = room kept + 1;
+  moves = movesFor kept 0;
+  place = roomAfter kept;
+  kept = roomAfter kept + 1;
   undone = 0;
   taped = false;
   remarks = remarks;
@@ -62,13 +62,13 @@ editStep refusal kept remarks entry = record {
 }
 
 -- what a call does on a board of so many rows, kept and undone steps
-unfoldable pub stepOf : Call → ℕ → ℕ → ℕ → Step
-stepOf (Add r) count kept undone =
-    editStep (cond (eqb (r .numeral) 0) 2 (cond (leb 1024 count) 3 0)) kept false (record { kind = 1; at = named count; row = r })
-stepOf (Withdraw k) count kept undone = editStep (cond (noRow count k) 4 0) kept false (record { kind = 0; at = named (k - 1); row = blank })
-stepOf (Remark k minutes) count kept undone =
-    editStep (cond (noRow count k) 4 0) kept true (record { kind = 2; at = named (k - 1); row = remarked blank minutes })
-stepOf Undo count kept undone = record {
+unfoldable pub planOf : Call → ℕ → ℕ → ℕ → Plan
+planOf (Add r) count kept undone =
+    editPlan (cond (eqb (r .numeral) 0) 2 (cond (leb 1024 count) 3 0)) kept false (record { kind = 1; at = placeNamed count; row = r })
+planOf (Withdraw k) count kept undone = editPlan (cond (noRow count k) 4 0) kept false (record { kind = 0; at = placeNamed (k - 1); row = blank })
+planOf (Remark k minutes) count kept undone =
+    editPlan (cond (noRow count k) 4 0) kept true (record { kind = 2; at = placeNamed (k - 1); row = remarked blank minutes })
+planOf Undo count kept undone = record {
   refusal = cond (eqb kept 0) 5 0;
   moves = 0;
   place = kept - 1;
@@ -78,11 +78,11 @@ stepOf Undo count kept undone = record {
   remarks = false;
   entry = noEntry;
 }
-stepOf Redo count kept undone = record {
+planOf Redo count kept undone = record {
   refusal = cond (eqb undone 0) 17 0;
-  moves = moved kept (few undone);
-  place = room kept;
-  kept = room kept + 1;
+  moves = movesFor kept (atMost256 undone);
+  place = roomAfter kept;
+  kept = roomAfter kept + 1;
   undone = undone - 1;
   taped = true;
   remarks = false;
@@ -90,8 +90,8 @@ stepOf Redo count kept undone = record {
 }
 
 -- the same, refused by 1 where the board isn't sound
-unfoldable pub judgedStep : Bool → Step → Step
-judgedStep sound s = record {
+unfoldable pub judgedPlan : Bool → Plan → Plan
+judgedPlan sound s = record {
   refusal = cond sound (s .refusal) 1;
   moves = s .moves;
   place = s .place;

@@ -8,9 +8,9 @@ use mir.Val.{SFits}
 use borrow.Author.Needs.{needs}
 use Rattle.rows.specs.declared.Row.{Row}
 use Rattle.rows.specs.Journal.{blank, remarked}
-use Rattle.rows.specs.StepLayer.{named, editStep, stepOf}
-use Rattle.rows.proofs.remark_step.Statement.{statement}
-use Rattle.rows.proofs.remark_step.Tie as tie
+use Rattle.rows.specs.PlanLayer.{placeNamed, editPlan, planOf}
+use Rattle.rows.proofs.remark_plan.Statement.{statement}
+use Rattle.rows.proofs.remark_plan.Tie as tie
 
 one-less-requires : tie.Need-one-less-requires
 one-less-requires c κs = search needs
@@ -30,22 +30,22 @@ entry-of-requires c κs = search needs
 row-refusal-requires : tie.Need-row-refusal-requires
 row-refusal-requires c κs = search needs
 
-edit-step-requires : tie.Need-edit-step-requires
-edit-step-requires c κs = search needs
+edit-plan-requires : tie.Need-edit-plan-requires
+edit-plan-requires c κs = search needs
 
 returns : tie.Need-returns
-unfolding stepOf
+unfolding planOf
 returns c =
     let n = c .before .before .before in
     let s = n .before .before .before .before in
     let h : SFits w32 (s .args .minutes) = search needs in
-    let at : n .before .before .place-named .result ≡ named (s .args .k - 1) = n .before .before .place-named .ensures ∙ ap named (n .before .before .before .one-less .ensures) in
+    let at : n .before .before .place-named .result ≡ placeNamed (s .args .k - 1) = n .before .before .place-named .ensures ∙ ap placeNamed (n .before .before .before .one-less .ensures) in
     let row : n .with-minutes .result ≡ remarked blank (s .args .minutes) = simp (toZ-ofZ h) at (n .with-minutes .ensures) ∙ ap (λ (r : Row). remarked r (s .args .minutes)) (n .before .blank-row .ensures) in
-    let entry : c .before .before .entry-of .result ≡ record { kind = 2; at = named (s .args .k - 1); row = remarked blank (s .args .minutes) } = c .before .before .entry-of .ensures ∙ (λ i. record { kind = 2; at = at i; row = row i }) in
-    c .edit-step .ensures ∙ (λ i. editStep (c .before .row-refusal .ensures i) (s .args .kept) true (entry i))
+    let entry : c .before .before .entry-of .result ≡ record { kind = 2; at = placeNamed (s .args .k - 1); row = remarked blank (s .args .minutes) } = c .before .before .entry-of .ensures ∙ (λ i. record { kind = 2; at = at i; row = row i }) in
+    c .edit-plan .ensures ∙ (λ i. editPlan (c .before .row-refusal .ensures i) (s .args .kept) true (entry i))
 
-pub remark-step-spec : {M : Type 1} → statement M
-remark-step-spec =
+pub remark-plan-spec : {M : Type 1} → statement M
+remark-plan-spec =
     tie.close
     (tie.spec
     one-less-requires
@@ -54,5 +54,5 @@ remark-step-spec =
     with-minutes-requires
     entry-of-requires
     row-refusal-requires
-    edit-step-requires
+    edit-plan-requires
     returns)

@@ -5,80 +5,80 @@ use mir.Syntax.{w32}
 use mir.Val.{SFits}
 use borrow.Author.Needs.{needs}
 use Rattle.rows.specs.declared.Call.{Call}
-use Rattle.rows.specs.StepLayer.{stepOf}
-use Rattle.rows.proofs.step_of.Statement.{statement}
-use Rattle.rows.proofs.step_of.Tie as tie
+use Rattle.rows.specs.PlanLayer.{planOf}
+use Rattle.rows.proofs.plan_of.Statement.{statement}
+use Rattle.rows.proofs.plan_of.Tie as tie
 
 enum-known-call : tie.Need-enum-known-call
 enum-known-call c = search needs
 
-add-step-requires : tie.Need-add-step-requires
-add-step-requires c κs = search needs
+add-plan-requires : tie.Need-add-plan-requires
+add-plan-requires c κs = search needs
 
 enum-known-call-2 : tie.Need-enum-known-call-2
 enum-known-call-2 c = search needs
 
-withdraw-step-requires : tie.Need-withdraw-step-requires
-withdraw-step-requires c κs = search needs
+withdraw-plan-requires : tie.Need-withdraw-plan-requires
+withdraw-plan-requires c κs = search needs
 
 enum-known-call-3 : tie.Need-enum-known-call-3
 enum-known-call-3 c = search needs
 
-remark-step-requires : tie.Need-remark-step-requires
-remark-step-requires c κs = search needs
+remark-plan-requires : tie.Need-remark-plan-requires
+remark-plan-requires c κs = search needs
 
 enum-told : tie.Need-enum-told
 enum-told c = search needs
 
-undo-step-requires : tie.Need-undo-step-requires
-undo-step-requires c κs = search needs
+undo-plan-requires : tie.Need-undo-plan-requires
+undo-plan-requires c κs = search needs
 
 enum-told-2 : tie.Need-enum-told-2
 enum-told-2 c = search needs
 
-redo-step-requires : tie.Need-redo-step-requires
-redo-step-requires c κs = search needs
+redo-plan-requires : tie.Need-redo-plan-requires
+redo-plan-requires c κs = search needs
 
 returns : tie.Need-returns
-unfolding stepOf
+unfolding planOf
 returns c =
     let s = c .before .before .before .before in
-    c .add-step .ensures ∙ sym (ap (λ (x : Call). stepOf x (s .args .count) (s .args .kept) (s .args .undone)) (c .before .before .call .given .1))
+    c .add-plan .ensures ∙ sym (ap (λ (x : Call). planOf x (s .args .count) (s .args .kept) (s .args .undone)) (c .before .before .call .given .1))
 
 returns-2 : tie.Need-returns-2
-unfolding stepOf
+unfolding planOf
 returns-2 c = cc
 
 returns-3 : tie.Need-returns-3
-unfolding stepOf
+unfolding planOf
 returns-3 c =
     let s = c .before .before .before .before in
     let g = c .before .before .call3 .given in
     let h : SFits w32 (g .0 .1 .0) = search needs in
-    simp (toZ-ofZ h) at (c .remark-step .ensures) ∙ sym (ap (λ (x : Call). stepOf x (s .args .count) (s .args .kept) (s .args .undone)) (g .1))
+    simp (toZ-ofZ h) at (c .remark-plan .ensures) ∙ sym (ap (λ (x : Call). planOf x (s .args .count) (s .args .kept) (s .args .undone)) (g .1))
 
 returns-4 : tie.Need-returns-4
-unfolding stepOf
+unfolding planOf
 returns-4 c = cc
 
 returns-5 : tie.Need-returns-5
-unfolding stepOf
+unfolding planOf
 returns-5 c = cc
 
-pub step-of-spec : {M : Type 1} → statement M
-step-of-spec =
+pub plan-of-spec : {M : Type 1} → statement M
+plan-of-spec =
     tie.close
     (tie.spec
     enum-known-call
-    add-step-requires
+    add-plan-requires
     enum-known-call-2
-    withdraw-step-requires
+    withdraw-plan-requires
     enum-known-call-3
-    remark-step-requires
+    remark-plan-requires
     enum-told
-    undo-step-requires
+    undo-plan-requires
     enum-told-2
-    redo-step-requires
+    redo-plan-requires
     returns
     returns-2
     returns-3

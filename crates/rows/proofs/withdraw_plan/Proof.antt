@@ -1,8 +1,8 @@
 -- `rows::withdraw_step` meets its contract. Assumes nothing.
 use borrow.Author.Needs.{needs}
-use Rattle.rows.specs.StepLayer.{stepOf}
-use Rattle.rows.proofs.withdraw_step.Statement.{statement}
-use Rattle.rows.proofs.withdraw_step.Tie as tie
+use Rattle.rows.specs.PlanLayer.{planOf}
+use Rattle.rows.proofs.withdraw_plan.Statement.{statement}
+use Rattle.rows.proofs.withdraw_plan.Tie as tie
 
 one-less-requires : tie.Need-one-less-requires
 one-less-requires c κs = search needs
@@ -19,15 +19,15 @@ entry-of-requires c κs = search needs
 row-refusal-requires : tie.Need-row-refusal-requires
 row-refusal-requires c κs = search needs
 
-edit-step-requires : tie.Need-edit-step-requires
-edit-step-requires c κs = search needs
+edit-plan-requires : tie.Need-edit-plan-requires
+edit-plan-requires c κs = search needs
 
 returns : tie.Need-returns
-unfolding stepOf
+unfolding planOf
 returns c = cc
 
-pub withdraw-step-spec : {M : Type 1} → statement M
-withdraw-step-spec =
+pub withdraw-plan-spec : {M : Type 1} → statement M
+withdraw-plan-spec =
     tie.close
     (tie.spec
     one-less-requires
@@ -35,5 +35,5 @@ withdraw-step-spec =
     blank-row-requires
     entry-of-requires
     row-refusal-requires
-    edit-step-requires
+    edit-plan-requires
     returns)

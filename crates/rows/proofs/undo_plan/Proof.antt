@@ -1,8 +1,8 @@
 -- `rows::undo_step` meets its contract. Assumes nothing.
 use borrow.Author.Needs.{needs}
-use Rattle.rows.specs.StepLayer.{stepOf}
-use Rattle.rows.proofs.undo_step.Statement.{statement}
-use Rattle.rows.proofs.undo_step.Tie as tie
+use Rattle.rows.specs.PlanLayer.{planOf}
+use Rattle.rows.proofs.undo_plan.Statement.{statement}
+use Rattle.rows.proofs.undo_plan.Tie as tie
 
 one-less-requires : tie.Need-one-less-requires
 one-less-requires c κs = search needs
@@ -20,8 +20,8 @@ entry-of-requires : tie.Need-entry-of-requires
 entry-of-requires c κs = search needs
 
 returns : tie.Need-returns
-unfolding stepOf
+unfolding planOf
 returns c = cc
 
-pub undo-step-spec : {M : Type 1} → statement M
-undo-step-spec = tie.close (tie.spec one-less-requires step-refusal-requires one-more-undone-requires blank-row-requires entry-of-requires returns)
+pub undo-plan-spec : {M : Type 1} → statement M
+undo-plan-spec = tie.close (tie.spec one-less-requires step-refusal-requires one-more-undone-requires blank-row-requires entry-of-requires returns)

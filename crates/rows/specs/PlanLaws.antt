@@ -5,17 +5,17 @@ use native.Mathlib.Omega.{arith}
 use mathlib.Core.Bool.{Bool, true, false, cond}
 use lib.Dec.{leb, ltb}
 use borrow.Author.Tests.{leb-true, ltb-true}
-use Rattle.rows.specs.StepLayer.{few, room}
+use Rattle.rows.specs.PlanLayer.{atMost256, roomAfter}
 
-pub few-le : (n : ℕ) → few n ≤ 256
-unfolding few
+pub few-le : (n : ℕ) → atMost256 n ≤ 256
+unfolding atMost256
 few-le n = go (leb n 256) refl where
   go : (t : Bool) → leb n 256 ≡ t → cond t n 256 ≤ 256
   go true e = leb-true n 256 e
   go false e = omega arith
 
-pub room-less : (kept : ℕ) → room kept < 256
-unfolding room
+pub room-less : (kept : ℕ) → roomAfter kept < 256
+unfolding roomAfter
 room-less kept = go (ltb kept 256) refl where
   go : (t : Bool) → ltb kept 256 ≡ t → cond t kept 255 < 256
   go true e = ltb-true kept 256 e

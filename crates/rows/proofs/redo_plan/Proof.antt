@@ -1,10 +1,10 @@
 -- `rows::redo_step` meets its contract. Assumes nothing.
 use borrow.Author.Needs.{needs}
 use native.Mathlib.Omega.{arith}
-use Rattle.rows.specs.StepLayer.{stepOf}
-use Rattle.rows.specs.StepLaws.{room-less, few-le}
-use Rattle.rows.proofs.redo_step.Statement.{statement}
-use Rattle.rows.proofs.redo_step.Tie as tie
+use Rattle.rows.specs.PlanLayer.{planOf}
+use Rattle.rows.specs.PlanLaws.{room-less, few-le}
+use Rattle.rows.proofs.redo_plan.Statement.{statement}
+use Rattle.rows.proofs.redo_plan.Tie as tie
 
 room-after-requires : tie.Need-room-after-requires
 room-after-requires c κs = search needs
@@ -31,11 +31,11 @@ entry-of-requires : tie.Need-entry-of-requires
 entry-of-requires c κs = search needs
 
 returns : tie.Need-returns
-unfolding stepOf
+unfolding planOf
 returns c = cc
 
-pub redo-step-spec : {M : Type 1} → statement M
-redo-step-spec =
+pub redo-plan-spec : {M : Type 1} → statement M
+redo-plan-spec =
     tie.close
     (tie.spec
     room-after-requires
