@@ -21,7 +21,7 @@ ENTRIES = "board history build navigate sums index_check guarantee flowpewter li
 # The theorems whose statements are followed.
 THEOREMS = {
     "guarantee": "guarantee sound-build unsound-build marked-cases built-accepted built-distances built-links",
-    "machine": "simulation earlier-and-later undo-redo redo-undo board-undo-redo board-redo-undo",
+    "machine": "simulation final-state earlier-and-later undo-redo redo-undo board-undo-redo board-redo-undo",
     "listing": "listing-outcome",
 }
 

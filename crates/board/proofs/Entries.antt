@@ -4,7 +4,6 @@ use Prim.Native.Nat.{ℕ, _+_, _-_, _≤_, _<_}
 use native.Mathlib.Omega.{arith}
 use mathlib.Core.Bool.{Bool, true, false, cond, _&&_, false≢true}
 use lib.ListN.{length, getD, set}
-use lib.Seq.{length-take-le, getD-take}
 use lib.Dec.{leb, eqb}
 use borrow.Author.Tests.{eq-eqb, ne-eqb, eqb-true, eqb-false, leb-true, ltb-true}
 use Rattle.lists.specs.Lists.{front}
@@ -14,10 +13,11 @@ use Rattle.rows.specs.declared.Entry.{Entry}
 use Rattle.board.specs.declared.Board.{Board}
 use Rattle.rows.specs.Journal.{allNumbered, isThere, carried, inverse, doable, blank}
 use Rattle.board.specs.Edits.{rowsOf}
+use Rattle.board.specs.Laws.{count-rows, old-row}
 
 module _ (b : Board) (e : Entry) (l : length (b .rows) ≡ 1024) (n : b .count ≤ 1024) (d : doable e (rowsOf b) ≡ true) where
   many : length (rowsOf b) ≡ b .count
-  many = length-take-le (b .count) (b .rows) (omega arith)
+  many = count-rows b l n
 
   able : (isThere e (length (rowsOf b)) ≡ true) × ((leb (length (carried e (rowsOf b))) 1024 && allNumbered (carried e (rowsOf b))) ≡ true)
   unfolding doable
@@ -30,9 +30,6 @@ module _ (b : Board) (e : Entry) (l : length (b .rows) ≡ 1024) (n : b .count �
   is-short =
       leb-true (length (carried e (rowsOf b))) 1024
       (and-yes (leb (length (carried e (rowsOf b))) 1024) (allNumbered (carried e (rowsOf b))) (able .1) .0)
-
-  old-row : (k : ℕ) → k < b .count → getD (rowsOf b) k blank ≡ getD (b .rows) k blank
-  old-row k h = getD-take (b .count) (b .rows) k blank h
 
   -- a row is put in
   module _ (k₁ : e .kind ≡ 1) where
@@ -86,7 +83,7 @@ module _ (b : Board) (e : Entry) (l : length (b .rows) ≡ 1024) (n : b .count �
 
       pub out-back : _≡_ {A = Entry} (record { kind = 1; at = e .at; row = getD (b .rows) (e .at) blank }) (inverse e (rowsOf b))
       unfolding inverse
-      out-back = rw (eq-eqb (e .kind) 0 k₀) (λ i. record { kind = 1; at = e .at; row = sym (old-row (e .at) at-place) i })
+      out-back = rw (eq-eqb (e .kind) 0 k₀) (λ i. record { kind = 1; at = e .at; row = sym (old-row b (e .at) at-place) i })
 
     module _ (k₀ : e .kind ≡ 0 → ⊥) where
       pub set-count : b .count ≡ length (carried e (rowsOf b))
@@ -99,7 +96,7 @@ module _ (b : Board) (e : Entry) (l : length (b .rows) ≡ 1024) (n : b .count �
 
       pub set-back : _≡_ {A = Entry} (record { kind = 2; at = e .at; row = getD (b .rows) (e .at) blank }) (inverse e (rowsOf b))
       unfolding inverse
-      set-back = rw (ne-eqb (e .kind) 0 k₀, ne-eqb (e .kind) 1 k₁) (λ i. record { kind = 2; at = e .at; row = sym (old-row (e .at) at-place) i })
+      set-back = rw (ne-eqb (e .kind) 0 k₀, ne-eqb (e .kind) 1 k₁) (λ i. record { kind = 2; at = e .at; row = sym (old-row b (e .at) at-place) i })
 
   -- the inverse that the code makes, and the place that it names
   pub turned : _≡_ {A = Entry} (cond (eqb (e .kind) 0) (record { kind = 1; at = e .at; row = getD (b .rows) (e .at) blank })

@@ -12,6 +12,7 @@ use borrow.Author.Tests.{le-leb, lt-ltb, le-ltb, ltb-true, ltb-false, eqb-false}
 use Rattle.lists.specs.Lists.{front}
 use Rattle.lists.specs.ChoiceLaws.{cond-none}
 use Rattle.lists.specs.MoveLaws.{movedUp, moved-up-start}
+use Rattle.lists.specs.FrontLaws.{store-front, shift-front}
 use Rattle.rows.specs.declared.Row.{Row}
 use Rattle.rows.specs.declared.Entry.{Entry}
 use Rattle.board.specs.declared.Board.{Board}
@@ -22,9 +23,8 @@ use Rattle.rows.specs.Journal.{carried, inverse, pushed, blank, noEntry, noRow,
 use Rattle.board.specs.Edits.{rowsOf, keptOf, undoneOf, newestOf, nextOf, soundOf, addRefusal, rowRefusal, undoRefusal, redoRefusal}
 use Rattle.rows.specs.PlanLayer.{atMost256, roomAfter, movesFor, placeNamed, entryChosen, rowChosen, editPlan, planOf, judgedPlan}
 use Rattle.rows.specs.PlanLaws.{few-le, room-less}
-use Rattle.board.specs.Laws.{sound-count, sound-kept, sound-undone}
+use Rattle.board.specs.Laws.{count-kept, count-undone, sound-count, sound-kept, sound-undone}
 use Rattle.board.specs.OperationLaws.{refusalBy, operation, keptAfter, undoneAfter, boardAfter, row-there}
-use Rattle.board.proofs.Tape.{store-front, shift-front}
 
 -- ---- the numbers
 
@@ -62,7 +62,7 @@ refusal-is b c = go c where
 
 module _ (b : Board) (m : ℕ) (l : length (b .journal) ≡ 512) (k : b .kept ≤ 256) (u : m ≤ 256) where
   n : length (keptOf b) ≡ b .kept
-  n = length-take-le (b .kept) (b .journal) (omega arith)
+  n = count-kept b l k
 
   rest : (r : ℕ) → drop 1 (take r (drop (b .kept) (b .journal))) ≡ take (r - 1) (drop (suc (b .kept)) (b .journal))
   rest zero = refl
@@ -172,16 +172,16 @@ module _ (b : Board) (lj : length (b .journal) ≡ 512) (s : soundOf b ≡ true)
         ∙ ap (λ (k : ℕ). front (take (b .kept - 1) (b .journal) ++ back ∷ take m (drop k (b .journal))) (b .journal)) some
         ∙ ap (λ (r : List Entry). front (take (b .kept - 1) (b .journal) ++ back ∷ r) (b .journal)) (sym e)
 
-    count-undone : length (undoneOf b) ≡ b .undone
-    count-undone = length-take-le (b .undone) (drop (b .kept) (b .journal)) (rw (length-drop (b .kept) (b .journal)) (omega (arith, sound-kept b s, sound-undone b s)))
+    many : length (undoneOf b) ≡ b .undone
+    many = count-undone b lj (sound-kept b s) (sound-undone b s)
 
     undone-more : (t : Bool) → ltb (b .undone) 256 ≡ t
         → (cond t (b .undone + 1) 256 ≡ length (take 256 (back ∷ undoneOf b)))
         × (set (b .journal) (b .kept - 1) back ≡ front (take (b .kept - 1) (b .journal) ++ take 256 (back ∷ undoneOf b)) (b .journal))
     undone-more true e =
         let h : b .undone < 256 = ltb-true (b .undone) 256 e in
-        let a : take 255 (undoneOf b) ≡ undoneOf b = take-all 255 (undoneOf b) (omega (arith, count-undone)) in
-        (omega (arith, ap length a, count-undone), more (b .undone) a (omega (arith, sound-kept b s, some)))
+        let a : take 255 (undoneOf b) ≡ undoneOf b = take-all 255 (undoneOf b) (omega (arith, many)) in
+        (omega (arith, ap length a, many), more (b .undone) a (omega (arith, sound-kept b s, some)))
     undone-more false e =
         let h : b .undone ≡ 256 = omega (arith, ltb-false (b .undone) 256 e, sound-undone b s) in
         let d : length (drop (b .kept) (b .journal)) ≡ 512 - b .kept = length-drop (b .kept) (b .journal) ∙ ap (λ (k : ℕ). k - b .kept) lj in
@@ -227,9 +227,7 @@ module _ (b : Board) (lj : length (b .journal) ≡ 512) (s : soundOf b ≡ true)
       go false f = after-the-kept (omega (arith, ltb-false (b .kept) 256 f, sound-kept b s))
 
     fewer : b .undone - 1 ≡ length (drop 1 (undoneOf b))
-    fewer =
-        let d : length (drop (b .kept) (b .journal)) ≡ 512 - b .kept = length-drop (b .kept) (b .journal) ∙ ap (λ (k : ℕ). k - b .kept) lj in
-        sym (length-drop 1 (undoneOf b) ∙ ap (λ (k : ℕ). k - 1) (length-take-le (b .undone) (drop (b .kept) (b .journal)) (omega (arith, d, sound-kept b s, sound-undone b s))))
+    fewer = sym (length-drop 1 (undoneOf b) ∙ ap (λ (k : ℕ). k - 1) (count-undone b lj (sound-kept b s) (sound-undone b s)))
 
     planned-redo : Planned b Redo (planOf Redo (b .count) (b .kept) (b .undone))
     unfolding planOf entryChosen rowChosen

@@ -4,11 +4,11 @@ use Prim.Native.Nat.{ℕ, suc, _+_, _-_, _≤_, _<_}
 use native.Mathlib.Omega.{arith}
 use mathlib.Core.Bool.{true, false, cond, not}
 use mathlib.Core.List.{List, [], _∷_, _++_}
-use lib.ListN.{length, take, drop, getD, set, length-append, length-take, length-drop, length-set}
-use lib.Seq.{take-length, drop-length, length-take-le, getD-take, split-at, set-split}
+use lib.ListN.{length, take, drop, getD, set}
+use lib.Seq.{take-length, drop-length, split-at}
 use lib.IntN.{ℤ}
 use lib.Dec.{eqb, leb, ltb}
-use borrow.Author.Tests.{le-leb, lt-ltb, eq-eqb, ne-eqb, eqb-false, leb-false, ltb-false, not-false}
+use borrow.Author.Tests.{le-leb, lt-leb, leb-true, lt-ltb, eq-eqb, ne-eqb, eqb-false, leb-false, ltb-false, not-false}
 use Rattle.lists.specs.Lists.{without, inserted}
 use Rattle.lists.specs.ChoiceLaws.{or-no, cond-none}
 use Rattle.rows.specs.declared.Row.{Row}
@@ -16,9 +16,11 @@ use Rattle.rows.specs.declared.Entry.{Entry}
 use Rattle.board.specs.declared.Board.{Board}
 use Rattle.rows.specs.declared.Call.{Call}
 use Rattle.rows.specs.declared.Call.the-variants.{Add, Withdraw, Remark, Undo, Redo}
-use Rattle.rows.specs.Journal.{allNumbered, isThere, carried, inverse, doable, pushed, blank, noRow, remarked}
+use Rattle.rows.specs.Journal.{allNumbered, carried, inverse, doable, pushed, blank, noRow, remarked}
 use Rattle.board.specs.Edits.{rowsOf, keptOf, undoneOf, newestOf, nextOf, rowAt, made, soundOf, refused, accepted, addRefusal, addOf, rowRefusal, withdrawOf, remarkOf, undoRefusal, undoOf, redoRefusal, redoOf, edit}
-use Rattle.board.specs.Laws.{numbered-append, numbered-take, numbered-drop, numbered-mid, sound-count, sound-rows, sound-newest, sound-next}
+use Rattle.rows.specs.PlanLayer.{canDo}
+use Rattle.rows.specs.EntryLaws.{numbered-mid, do-test}
+use Rattle.board.specs.Laws.{count-rows, old-row, sound-count, sound-rows, sound-newest, sound-next}
 
 -- the number that refuses a call, 0 for none
 abbrev pub refusalBy : Board → Call → ℕ
@@ -105,7 +107,7 @@ edit-refused b Redo h = simp (ne-eqb (redoRefusal b) 0 h)
 
 module _ (b : Board) (l : length (b .rows) ≡ 1024) (s : soundOf b ≡ true) where
   pub rows-count : length (rowsOf b) ≡ b .count
-  rows-count = length-take-le (b .count) (b .rows) (omega (arith, sound-count b s))
+  rows-count = count-rows b l (sound-count b s)
 
   short : length (rowsOf b) ≤ 1024
   short = omega (arith, rows-count, sound-count b s)
@@ -119,47 +121,32 @@ module _ (b : Board) (l : length (b .rows) ≡ 1024) (s : soundOf b ≡ true) wh
         ∙ (λ i. take-length (rowsOf b) i ++ r ∷ drop-length (rowsOf b) i)
 
     add-can : eqb (r .numeral) 0 ≡ false → b .count < 1024 → doable (operation b (Add r)) (rowsOf b) ≡ true
-    unfolding isThere doable
+    unfolding canDo
     add-can q h =
-        let n : length (rowsOf b ++ (r ∷ [])) ≡ length (rowsOf b) + 1 = length-append (rowsOf b) (r ∷ []) in
-        let w : allNumbered (rowsOf b ++ (r ∷ [])) ≡ true = simp (numbered-append (rowsOf b) (r ∷ []), sound-rows b s, le-leb 1 (r .numeral) (omega (arith, eqb-false (r .numeral) 0 q))) in
-        let t : leb (length (rowsOf b ++ (r ∷ []))) 1024 ≡ true = le-leb (length (rowsOf b ++ (r ∷ []))) 1024 (omega (arith, n, rows-count)) in
-        simp (add-rows, w, t, le-leb (b .count) (length (rowsOf b)) (omega (arith, rows-count)))
+        sym (do-test (operation b (Add r)) (rowsOf b) short (sound-rows b s))
+        ∙ simp (q, lt-leb 1024 (length (rowsOf b)) (omega (arith, rows-count)), le-leb (b .count) (length (rowsOf b)) (omega (arith, rows-count)))
 
   -- a row that is there is taken out, or set
   module _ (k : ℕ) (inside : k < b .count) where
-    pub row-inside : k < length (rowsOf b)
+    row-inside : k < length (rowsOf b)
     row-inside = omega (arith, rows-count)
 
-    pub old-row : getD (rowsOf b) k blank ≡ getD (b .rows) k blank
-    old-row = getD-take (b .count) (b .rows) k blank inside
-
-    old-good : leb 1 (getD (rowsOf b) k blank .numeral) ≡ true
-    old-good =
-        sym (numbered-mid k (suc k) (rowsOf b) (getD (rowsOf b) k blank) (sound-rows b s))
-        ∙ ap allNumbered (sym (split-at (rowsOf b) k blank row-inside))
-        ∙ sound-rows b s
+    numbered-row : eqb (getD (b .rows) k blank .numeral) 0 ≡ false
+    numbered-row =
+        let g : leb 1 (getD (rowsOf b) k blank .numeral) ≡ true =
+        sym (numbered-mid k (suc k) (rowsOf b) (getD (rowsOf b) k blank) (sound-rows b s)) ∙ ap allNumbered (sym (split-at (rowsOf b) k blank row-inside)) ∙ sound-rows b s in
+        let h : 1 ≤ getD (b .rows) k blank .numeral = leb-true 1 (getD (b .rows) k blank .numeral) (ap (λ (x : Row). leb 1 (x .numeral)) (sym (old-row b k inside)) ∙ g) in
+        ne-eqb (getD (b .rows) k blank .numeral) 0 (λ z. omega (arith, z, h))
 
     out-can : doable (record { kind = 0; at = k; row = blank }) (rowsOf b) ≡ true
-    unfolding isThere doable carried without
-    out-can =
-        let w : allNumbered (take k (rowsOf b) ++ drop (suc k) (rowsOf b)) ≡ true =
-        simp (numbered-append (take k (rowsOf b)) (drop (suc k) (rowsOf b)), numbered-take k (rowsOf b) (sound-rows b s), numbered-drop (suc k) (rowsOf b) (sound-rows b s)) in
-        let t : leb (length (take k (rowsOf b) ++ drop (suc k) (rowsOf b))) 1024 ≡ true =
-        le-leb (length (take k (rowsOf b) ++ drop (suc k) (rowsOf b))) 1024 (simp (length-append, length-take, length-drop) (omega (arith, short))) in
-        simp (lt-ltb k (length (rowsOf b)) row-inside, w, t)
+    unfolding canDo
+    out-can = sym (do-test (record { kind = 0; at = k; row = blank }) (rowsOf b) short (sound-rows b s)) ∙ lt-ltb k (length (rowsOf b)) row-inside
 
     set-can : (m : ℤ) → doable (record { kind = 2; at = k; row = remarked (getD (b .rows) k blank) m }) (rowsOf b) ≡ true
-    unfolding isThere doable carried
+    unfolding canDo
     set-can m =
-        let new : Row = remarked (getD (b .rows) k blank) m in
-        let w : allNumbered (set (rowsOf b) k new) ≡ true =
-        ap allNumbered (set-split (rowsOf b) k new row-inside)
-        ∙ numbered-mid k (suc k) (rowsOf b) new (sound-rows b s)
-        ∙ ap (λ (x : Row). leb 1 (x .numeral)) (sym old-row)
-        ∙ old-good in
-        let t : leb (length (set (rowsOf b) k new)) 1024 ≡ true = le-leb (length (set (rowsOf b) k new)) 1024 (rw (length-set (rowsOf b) k new) short) in
-        simp (lt-ltb k (length (rowsOf b)) row-inside, w, t)
+        sym (do-test (record { kind = 2; at = k; row = remarked (getD (b .rows) k blank) m }) (rowsOf b) short (sound-rows b s))
+        ∙ simp (numbered-row, lt-ltb k (length (rowsOf b)) row-inside)
 
 -- ---- every accepted call
 
@@ -187,7 +174,7 @@ module _ (b : Board) (l : length (b .rows) ≡ 1024) where
       record {
         sound = x .0;
         can = out-can b l (x .0) (k - 1) i;
-        answer = simp (eq-eqb (rowRefusal b k) 0 e) (ap (λ (r : Row). accepted b (record { kind = 1; at = k - 1; row = r }) (without (rowsOf b) (k - 1))) (sym (old-row b l (x .0) (k - 1) i)));
+        answer = simp (eq-eqb (rowRefusal b k) 0 e) (ap (λ (r : Row). accepted b (record { kind = 1; at = k - 1; row = r }) (without (rowsOf b) (k - 1))) (sym (old-row b (k - 1) i)));
       }
 
   carries-remark : (k : ℕ) (m : ℤ) → rowRefusal b k ≡ 0 → Carries b (Remark k m)
@@ -199,7 +186,7 @@ module _ (b : Board) (l : length (b .rows) ≡ 1024) where
         sound = x .0;
         can = set-can b l (x .0) (k - 1) i m;
         answer = simp (eq-eqb (rowRefusal b k) 0 e)
-            (ap (λ (r : Row). accepted b (record { kind = 2; at = k - 1; row = r }) (set (rowsOf b) (k - 1) (remarked (rowAt b k) m))) (sym (old-row b l (x .0) (k - 1) i)));
+            (ap (λ (r : Row). accepted b (record { kind = 2; at = k - 1; row = r }) (set (rowsOf b) (k - 1) (remarked (rowAt b k) m))) (sym (old-row b (k - 1) i)));
       }
 
   pub edit-carries : (c : Call) → refusalBy b c ≡ 0 → Carries b c

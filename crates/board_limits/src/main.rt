@@ -166,7 +166,7 @@ fn state(name: &[u8], ran: AfterCalls) {
     say(b"\n");
 }
 
-// Where K and F are full, undo and redo drop the last list of the other.
+// Where K and F are full, an undo drops the last list of F, a redo the last of K.
 fn full_tapes() {
     let board = full_tape();
     say(b"256 kept and 256 undone steps: sound");

@@ -14,7 +14,7 @@ use Rattle.rows.specs.declared.Row.{Row}
 use Rattle.rows.specs.declared.Call.{Call}
 use Rattle.rows.specs.declared.Call.the-variants.{Add, Withdraw, Remark, Undo, Redo}
 use Rattle.rows.specs.Journal.{blank, noRow, remarked}
-use Rattle.machine.specs.Machine.{Machine, Answer, gives, changes, goesBack, comesBack, answer, after, start}
+use Rattle.machine.specs.Machine.{Machine, Answer, gives, changes, goesBack, goesForward, answer, after, start}
 use Rattle.machine.specs.Calls.{MinutesFit, AllFit}
 use Rattle.guarantee.specs.Guarantee.{RowsFit}
 
@@ -38,7 +38,7 @@ undo-fits : (m : Machine) (K : List (List Row)) → MachineFits m → ListsFit K
 undo-fits m [] h k = h
 undo-fits m (rows ∷ earlier) h k = (k rows (inl refl), (λ l i. k l (inr i)), one-more-list-fits (m .rows) (m .later) (h .0) (h .2))
 
-redo-fits : (m : Machine) (F : List (List Row)) → MachineFits m → ListsFit F → MachineFits (comesBack m F .machine)
+redo-fits : (m : Machine) (F : List (List Row)) → MachineFits m → ListsFit F → MachineFits (goesForward m F .machine)
 redo-fits m [] h k = h
 redo-fits m (rows ∷ later) h k = (k rows (inl refl), one-more-list-fits (m .rows) (m .earlier) (h .0) (h .1), λ l i. k l (inr i))
 

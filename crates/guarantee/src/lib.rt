@@ -10,7 +10,7 @@ use request::Built;
 use request::Start;
 use sums::Summed;
 
-// What `replay_all` answers: the replay's own refusal number (101 to 103), or 0, the number of calls, the board's earlier and undone row lists and rows after them, and the answers of the build, the descendants and the subtree sum.
+// What `replay_all` answers: the replay's own refusal number (101 to 103), or 0, the number of calls, the numbers of the board's kept steps, undone steps and rows after them, and the answers of the build, the descendants and the subtree sum.
 #[repr(C)]
 pub struct ReplayedAll {
     pub replayed: u32,

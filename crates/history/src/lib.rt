@@ -1,4 +1,4 @@
-// Calls on a board in order, from the empty board: as values, and as words, five to a call.
+// Calls on a board in order, from the empty board, told by words, five to a call.
 ghost use mathlib.Core.Path.{_≡_};
 ghost use Prim.Native.Nat.{_*_, _≤_};
 ghost use lib.ListN.{length};

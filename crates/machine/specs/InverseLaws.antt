@@ -1,16 +1,16 @@
 -- The inverse of an entry leads back: carried out after the entry, it gives the rows before it. Assumes nothing.
 use mathlib.Core.Path.{_≡_, refl, sym, ap, _∙_}
-use Prim.Native.Nat.{ℕ, suc, _-_, _≤_, _<_}
+use Prim.Native.Nat.{ℕ, _-_, _≤_, _<_}
 use native.Mathlib.Omega.{arith}
 use mathlib.Core.Bool.{Bool, true, false, _&&_, false≢true}
-use mathlib.Core.List.{List, [], _∷_, _++_}
-use lib.ListN.{length, take, drop, getD, set, length-append, length-set, take-append-drop}
-use lib.Seq.{take-length, take-at, drop-at, length-take-le, split-at, append-snoc, set-set, set-getD}
+use mathlib.Core.List.{List}
+use lib.ListN.{length, getD, set, length-set}
+use lib.Seq.{take-length, set-set, set-getD}
 use lib.Dec.{eqb, leb}
 use borrow.Author.Tests.{lt-ltb, le-leb, leb-true, ltb-true}
 use Rattle.lists.specs.ChoiceLaws.{and-yes}
 use Rattle.lists.specs.Lists.{without, inserted}
-use Rattle.lists.specs.MoveLaws.{length-inserted, length-without}
+use Rattle.lists.specs.MoveLaws.{length-inserted, length-without, inserted-without, without-inserted}
 use Rattle.rows.specs.declared.Row.{Row}
 use Rattle.rows.specs.declared.Entry.{Entry}
 use Rattle.rows.specs.Journal.{allNumbered, isThere, carried, inverse, doable, blank}
@@ -26,22 +26,6 @@ module _ (R : List Row) (k : ℕ) where
   length-out : k < length R → length (without R k) ≡ length R - 1
   length-out h = ap (λ (r : List Row). length (without r k)) (sym (take-length R)) ∙ length-without R (length R) k h (omega arith)
 
-  in-out : k < length R → inserted (without R k) k (getD R k blank) ≡ R
-  unfolding inserted without
-  in-out h =
-      let l : length (take k R) ≡ k = length-take-le k R (omega arith) in
-      rw (take-at (take k R) (drop (suc k) R) k l, drop-at (take k R) (drop (suc k) R) k l) (sym (split-at R k blank h))
-
-  out-in : (r : Row) → k ≤ length R → without (inserted R k r) k ≡ R
-  unfolding inserted without
-  out-in r h =
-      let l : length (take k R) ≡ k = length-take-le k R h in
-      let m : length (take k R ++ (r ∷ [])) ≡ suc k = length-append (take k R) (r ∷ []) ∙ omega (arith, l) in
-      ap (λ (x : List Row). x ++ drop (suc k) (take k R ++ r ∷ drop k R)) (take-at (take k R) (r ∷ drop k R) k l)
-      ∙ ap (λ (x : List Row). take k R ++ drop (suc k) x) (sym (append-snoc (take k R) r (drop k R)))
-      ∙ ap (λ (x : List Row). take k R ++ x) (drop-at (take k R ++ (r ∷ [])) (drop k R) (suc k) m)
-      ∙ take-append-drop k R
-
 module _ (e : Entry) (R : List Row) where
   -- the inverse names a row that is there, and gives the rows before
   Back : Type 0
@@ -51,10 +35,10 @@ module _ (e : Entry) (R : List Row) where
   unfolding Back isThere inverse carried
   by-kind true t₁ t₂ k₀ k₁ k₂ h =
       let l = ltb-true (e .at) (length R) (rw k₀ at h) in
-      rw k₀ (le-leb (e .at) (length (without R (e .at))) (omega (arith, length-out R (e .at) l)), in-out R (e .at) l)
+      rw k₀ (le-leb (e .at) (length (without R (e .at))) (omega (arith, length-out R (e .at) l)), inserted-without R (e .at) blank l)
   by-kind false true t₂ k₀ k₁ k₂ h =
       let l = leb-true (e .at) (length R) (rw (k₀, k₁) at h) in
-      rw (k₀, k₁) (lt-ltb (e .at) (length (inserted R (e .at) (e .row))) (omega (arith, length-inserted R (e .at) (e .row))), out-in R (e .at) (e .row) l)
+      rw (k₀, k₁) (lt-ltb (e .at) (length (inserted R (e .at) (e .row))) (omega (arith, length-inserted R (e .at) (e .row))), without-inserted R (e .at) (e .row) l)
   by-kind false false true k₀ k₁ k₂ h =
       let l = ltb-true (e .at) (length R) (rw (k₀, k₁, k₂) at h) in
       rw (k₀, k₁) (

@@ -40,9 +40,9 @@ goesBack m (rows ∷ earlier) = gives 0 (record { rows = rows; earlier = earlier
 
 -- "Redo takes the head of F as R and puts the old R at the head of K; in K and F the last is dropped beyond 256";
 -- "It refuses a redo with F empty, as 17, after 5; the plain machine does so too"
-abbrev pub comesBack : Machine → List (List Row) → Answer
-comesBack m [] = gives 17 m
-comesBack m (rows ∷ later) = gives 0 (record { rows = rows; earlier = take 256 (m .rows ∷ m .earlier); later = later })
+abbrev pub goesForward : Machine → List (List Row) → Answer
+goesForward m [] = gives 17 m
+goesForward m (rows ∷ later) = gives 0 (record { rows = rows; earlier = take 256 (m .rows ∷ m .earlier); later = later })
 
 -- "Add: a row is put at the end of R", refusals 2 and 3; "Withdraw: row number k is taken out" and "Remark: row k gets new minutes", refusal 4.
 -- "A refused call changes nothing"
@@ -54,7 +54,7 @@ answer m (Remark k minutes) =
     cond (noRow (length (m .rows)) k) (gives 4 m)
     (changes m (set (m .rows) (k - 1) (remarked (getD (m .rows) (k - 1) blank) minutes)))
 answer m Undo = goesBack m (m .earlier)
-answer m Redo = comesBack m (m .later)
+answer m Redo = goesForward m (m .later)
 
 -- the refusal numbers of a list of calls, 0 for none, and the machine after the list
 abbrev pub answers : Machine → List Call → List ℕ

@@ -1,11 +1,10 @@
 -- The plain machine run on examples: R, K and F after undos, redos and edits. Assumes nothing.
 use mathlib.Core.Path.{_≡_, refl}
 use Prim.Native.Nat.{ℕ}
-use mathlib.Core.List.{List, [], _∷_}
+use mathlib.Core.List.{[], _∷_}
 use lib.ListN.{length, replicate}
 use lib.IntN.{pos}
 use Rattle.rows.specs.declared.Row.{Row}
-use Rattle.rows.specs.declared.Call.{Call}
 use Rattle.rows.specs.declared.Call.the-variants.{Add, Withdraw, Remark, Undo, Redo}
 use Rattle.machine.specs.Machine.{Machine, answer, answers, after, start}
 

@@ -9,7 +9,7 @@ use Rattle.rows.specs.declared.Row.{Row}
 use Rattle.rows.specs.declared.Call.{Call}
 use Rattle.rows.specs.declared.Call.the-variants.{Add, Withdraw, Remark, Undo, Redo}
 use Rattle.board.specs.Edits.{emptyOf}
-use Rattle.machine.specs.Machine.{Machine, Answer, goesBack, comesBack, answer, after, start}
+use Rattle.machine.specs.Machine.{Machine, Answer, goesBack, goesForward, answer, after, start}
 use Rattle.machine.specs.Calls.{final}
 use Rattle.machine.specs.State.{stateOf}
 use Rattle.machine.specs.SimulationLaws.{final-state}
@@ -24,7 +24,7 @@ within-back : (m : Machine) (K : List (List Row)) → length K + length (m .late
 within-back m [] h w = w
 within-back m (x ∷ K) h w = omega (arith, length-take 255 (m .later))
 
-within-on : (m : Machine) (F : List (List Row)) → length (m .earlier) + length F ≤ 256 → Within m → Within (comesBack m F .machine)
+within-on : (m : Machine) (F : List (List Row)) → length (m .earlier) + length F ≤ 256 → Within m → Within (goesForward m F .machine)
 within-on m [] h w = w
 within-on m (x ∷ F) h w = omega (arith, length-take 255 (m .earlier))
 

@@ -3,14 +3,14 @@ use mathlib.Core.Path.{_≡_, refl, sym, ap, _∙_, subst}
 use Prim.Native.Nat.{ℕ, zero, suc, _-_, _≤_, _<_}
 use native.Mathlib.Omega.{arith}
 use mathlib.Core.Bool.{Bool, true, false, cond, _||_}
-use mathlib.Core.List.{List, [], _∷_, _++_, reverse, reverse-append, reverse-cons, append-assoc}
-use lib.ListN.{length, take, drop, length-append, length-drop, length-take, length-reverse}
-use lib.Seq.{take-all, take-at, length-take-le, take-suc, drop-cons, take-append-seam, drop-append-seam}
+use mathlib.Core.List.{List, [], _∷_, _++_, reverse, reverse-append, reverse-cons}
+use lib.ListN.{length, take, drop, length-append, length-take, length-reverse}
+use lib.Seq.{take-all, take-at, take-suc, drop-cons}
 use lib.IntN.{ℤ}
 use lib.Dec.{eqb, leb, ltb}
 use borrow.Author.Tests.{le-leb, ltb-true, ltb-false, eqb-true, eqb-false}
-use Rattle.lists.specs.Lists.{front}
 use Rattle.lists.specs.StoreLaws.{take-front, length-front}
+use Rattle.lists.specs.FrontLaws.{first-part, second-part}
 use Rattle.rows.specs.declared.Row.{Row}
 use Rattle.rows.specs.declared.Entry.{Entry}
 use Rattle.board.specs.declared.Board.{Board}
@@ -19,8 +19,9 @@ use Rattle.rows.specs.declared.Call.{Call}
 use Rattle.rows.specs.declared.Call.the-variants.{Add, Withdraw, Remark, Undo, Redo}
 use Rattle.rows.specs.Journal.{allNumbered, carried, inverse, doable, pushed, noEntry, noRow}
 use Rattle.board.specs.Edits.{rowsOf, keptOf, undoneOf, newestOf, nextOf, made, soundOf, refused, addRefusal, rowRefusal, undoRefusal, redoRefusal, edit}
-use Rattle.board.specs.OperationLaws.{refusalBy, operation, keptAfter, undoneAfter, boardAfter, edit-refused, edit-carries, add-rows, old-row, row-there}
-use Rattle.machine.specs.Machine.{Machine, gives, changes, goesBack, comesBack, answer}
+use Rattle.board.specs.Laws.{count-rows, count-kept, count-undone, old-row}
+use Rattle.board.specs.OperationLaws.{refusalBy, operation, keptAfter, undoneAfter, boardAfter, edit-refused, edit-carries, add-rows, row-there}
+use Rattle.machine.specs.Machine.{Machine, gives, changes, goesBack, goesForward, answer}
 use Rattle.machine.specs.State.{listsFrom, stateOf}
 use Rattle.machine.specs.StateLaws.{AllDoable, Valid}
 use Rattle.machine.specs.InverseLaws.{Leads, leads}
@@ -86,20 +87,6 @@ reverse-pushed J e h = go (ltb (length J) 256) refl where
       let l : 256 ≤ length J = ltb-false (length J) 256 q in
       reverse-append (drop 1 J) (e ∷ []) ∙ ap (λ (r : List Entry). e ∷ r) (reverse-rest J (omega arith))
 
--- ---- the two parts of the tape
-
-first-part : (K F j : List Entry) → take (length K) (front (K ++ F) j) ≡ K
-unfolding front
-first-part K F j =
-    ap (λ (l : List Entry). take (length K) l) (append-assoc K F (drop (length (K ++ F)) j)) ∙ take-append-seam K (F ++ drop (length (K ++ F)) j)
-
-second-part : (K F j : List Entry) → take (length F) (drop (length K) (front (K ++ F) j)) ≡ F
-unfolding front
-second-part K F j =
-    ap (λ (l : List Entry). take (length F) (drop (length K) l)) (append-assoc K F (drop (length (K ++ F)) j))
-    ∙ ap (λ (l : List Entry). take (length F) l) (drop-append-seam K (F ++ drop (length (K ++ F)) j))
-    ∙ take-append-seam F (drop (length (K ++ F)) j)
-
 -- ---- a valid board
 
 none-or : (n : ℕ) (t : Bool) → ((n ≡ 0 → ⊥) → t ≡ true) → (eqb n 0 || t) ≡ true
@@ -110,13 +97,13 @@ none-or n t h = go (eqb n 0) refl where
 
 module _ (b : Board) (v : Valid b) where
   pub many : length (rowsOf b) ≡ b .count
-  many = length-take-le (b .count) (b .rows) (omega (arith, v .places, v .small))
+  many = count-rows b (v .places) (v .small)
 
   pub some : length (keptOf b) ≡ b .kept
-  some = length-take-le (b .kept) (b .journal) (omega (arith, v .slots, v .few))
+  some = count-kept b (v .slots) (v .few)
 
   pub left : length (undoneOf b) ≡ b .undone
-  left = length-take-le (b .undone) (drop (b .kept) (b .journal)) (rw (length-drop (b .kept) (b .journal)) (omega (arith, v .slots, v .few, v .brief)))
+  left = count-undone b (v .slots) (v .few) (v .brief)
 
   through-kept : Through (rowsOf b) (reverse (keptOf b)) (stateOf b .earlier)
   through-kept = record { most = rw (length-reverse (keptOf b), some) (v .few); all = v .behind; lists = refl }
@@ -186,18 +173,18 @@ module _ (b : Board) (v : Valid b) where
 
 -- ---- one call
 
-pub record Step (b : Board) (c : Call) : Type 0 where
+pub record Follows (b : Board) (c : Call) : Type 0 where
   pub same : answer (stateOf b) c ≡ gives (edit b c .refusal) (stateOf (edit b c .board))
   pub valid : Valid (edit b c .board)
 
-step-by : (b : Board) (c : Call) (x : Edited) → edit b c ≡ x → answer (stateOf b) c ≡ gives (x .refusal) (stateOf (x .board)) → Valid (x .board) → Step b c
+step-by : (b : Board) (c : Call) (x : Edited) → edit b c ≡ x → answer (stateOf b) c ≡ gives (x .refusal) (stateOf (x .board)) → Valid (x .board) → Follows b c
 step-by b c x q h w = record {
   same = h ∙ ap (λ (y : Edited). gives (y .refusal) (stateOf (y .board))) (sym q);
   valid = subst (λ (y : Edited). Valid (y .board)) (sym q) w;
 }
 
 module _ (b : Board) (v : Valid b) where
-  refuses : (c : Call) (n : ℕ) → 0 < n → refusalBy b c ≡ n → answer (stateOf b) c ≡ gives n (stateOf b) → Step b c
+  refuses : (c : Call) (n : ℕ) → 0 < n → refusalBy b c ≡ n → answer (stateOf b) c ≡ gives n (stateOf b) → Follows b c
   refuses c n p e h =
       step-by b c (refused n b) (edit-refused b c (λ z. omega (arith, e, z)) ∙ ap (λ (k : ℕ). refused k b) e) h v
 
@@ -208,7 +195,7 @@ module _ (b : Board) (v : Valid b) where
     accepts : (earlier later : List (List Row)) → Through (carried (operation b c) (rowsOf b)) (reverse (keptAfter b c)) earlier
         → Through (carried (operation b c) (rowsOf b)) (undoneAfter b c) later
         → answer (stateOf b) c ≡ gives 0 (record { rows = carried (operation b c) (rowsOf b); earlier = earlier; later = later })
-        → Step b c
+        → Follows b c
     accepts earlier later k f h =
         step-by b c (record { refusal = 0; board = boardAfter b c }) (edit-carries b (v .places) c e .answer)
         (h ∙ ap (λ (m : Machine). gives 0 m) (sym (state-made b v (carried (operation b c) (rowsOf b)) (keptAfter b c) (undoneAfter b c) earlier later (led .short) (led .well) k f)))
@@ -225,7 +212,7 @@ module _ (b : Board) (v : Valid b) where
     through-left = through-more (rowsOf b) (carried (operation b c) (rowsOf b)) (inverse (operation b c) (rowsOf b)) led (undoneOf b) (stateOf b .later) (through-undone b v)
 
   -- ---- add
-  step-add : (r : Row) (t₂ t₃ : Bool) → eqb (r .numeral) 0 ≡ t₂ → leb 1024 (b .count) ≡ t₃ → Step b (Add r)
+  step-add : (r : Row) (t₂ t₃ : Bool) → eqb (r .numeral) 0 ≡ t₂ → leb 1024 (b .count) ≡ t₃ → Follows b (Add r)
   unfolding addRefusal
   step-add r true t₃ q₂ q₃ = refuses (Add r) 2 (omega arith) (simp (valid-sound b v, q₂)) (simp q₂)
   step-add r false true q₂ q₃ = refuses (Add r) 3 (omega arith) (simp (valid-sound b v, q₂, q₃)) (simp (q₂, many b v, q₃))
@@ -243,7 +230,7 @@ module _ (b : Board) (v : Valid b) where
     unfolding rowRefusal
     row-refused t q = rw (valid-sound b v, q)
 
-    step-withdraw : (t : Bool) → noRow (b .count) k ≡ t → Step b (Withdraw k)
+    step-withdraw : (t : Bool) → noRow (b .count) k ≡ t → Follows b (Withdraw k)
     unfolding carried
     step-withdraw true q = refuses (Withdraw k) 4 (omega arith) (row-refused true q) (rw (none-there true q))
     step-withdraw false q =
@@ -251,17 +238,17 @@ module _ (b : Board) (v : Valid b) where
         accepts (Withdraw k) e (take 256 (rowsOf b ∷ stateOf b .earlier)) [] (through-pushed (Withdraw k) e) (through-none (carried (operation b (Withdraw k)) (rowsOf b)))
         (rw (none-there false q))
 
-    step-remark : (m : ℤ) (t : Bool) → noRow (b .count) k ≡ t → Step b (Remark k m)
+    step-remark : (m : ℤ) (t : Bool) → noRow (b .count) k ≡ t → Follows b (Remark k m)
     unfolding carried
     step-remark m true q = refuses (Remark k m) 4 (omega arith) (row-refused true q) (rw (none-there true q))
     step-remark m false q =
         let e = row-refused false q in
         let i = row-there (b .count) k q in
         accepts (Remark k m) e (take 256 (rowsOf b ∷ stateOf b .earlier)) [] (through-pushed (Remark k m) e) (through-none (carried (operation b (Remark k m)) (rowsOf b)))
-        (rw (none-there false q, old-row b (v .places) (valid-sound b v) (k - 1) (omega (arith, i .0, i .1))))
+        (rw (none-there false q, old-row b (k - 1) (omega (arith, i .0, i .1))))
 
   -- ---- undo
-  step-undo : (t : Bool) → eqb (b .kept) 0 ≡ t → Step b Undo
+  step-undo : (t : Bool) → eqb (b .kept) 0 ≡ t → Follows b Undo
   unfolding undoRefusal
   step-undo true q =
       let h : keptOf b ≡ [] = ap (λ (n : ℕ). take n (b .journal)) (eqb-true (b .kept) 0 q) in
@@ -275,20 +262,20 @@ module _ (b : Board) (v : Valid b) where
       (ap (λ (es : List Entry). goesBack (stateOf b) (listsFrom (rowsOf b) es)) h)
 
   -- ---- redo
-  step-redo : (t : Bool) → eqb (b .undone) 0 ≡ t → Step b Redo
+  step-redo : (t : Bool) → eqb (b .undone) 0 ≡ t → Follows b Redo
   unfolding redoRefusal
   step-redo true q =
       let h : undoneOf b ≡ [] = ap (λ (n : ℕ). take n (drop (b .kept) (b .journal))) (eqb-true (b .undone) 0 q) in
-      refuses Redo 17 (omega arith) (simp (valid-sound b v, q)) (ap (λ (J : List Entry). comesBack (stateOf b) (listsFrom (rowsOf b) J)) h)
+      refuses Redo 17 (omega arith) (simp (valid-sound b v, q)) (ap (λ (J : List Entry). goesForward (stateOf b) (listsFrom (rowsOf b) J)) h)
   step-redo false q =
       let e : redoRefusal b ≡ 0 = simp (valid-sound b v, q) in
       let h = next-first b v (eqb-false (b .undone) 0 q) in
       let F : List Entry = drop 1 (undoneOf b) in
       let t = subst (λ (es : List Entry). Through (rowsOf b) es (stateOf b .later)) h (through-undone b v) in
       accepts Redo e (take 256 (rowsOf b ∷ stateOf b .earlier)) (listsFrom (carried (nextOf b) (rowsOf b)) F) (through-pushed Redo e) (through-rest (rowsOf b) (nextOf b) F (stateOf b .later) t)
-      (ap (λ (es : List Entry). comesBack (stateOf b) (listsFrom (rowsOf b) es)) h)
+      (ap (λ (es : List Entry). goesForward (stateOf b) (listsFrom (rowsOf b) es)) h)
 
-  pub step : (c : Call) → Step b c
+  pub step : (c : Call) → Follows b c
   step (Add r) = step-add r (eqb (r .numeral) 0) (leb 1024 (b .count)) refl refl
   step (Withdraw k) = step-withdraw k (noRow (b .count) k) refl
   step (Remark k m) = step-remark k m (noRow (b .count) k) refl

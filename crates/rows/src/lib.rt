@@ -368,7 +368,7 @@ pub fn judged(
 }
 
 // Whether a board is sound: then a call isn't refused by 1. It is asked so because the compiler leaves `judged` a function of its own;
-// with the test inside it `Board::sound` would be too large to be put into a build, which would copy the board once more.
+// with the test inside it, `Board::sound` would be too large to be put into a build, which would copy the board once more.
 pub fn is_sound(
     count: usize,
     kept: usize,

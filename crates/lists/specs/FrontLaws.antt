@@ -1,16 +1,16 @@
--- A list of entries stored at the front of a tape: one place set, and the oldest dropped. Assumes nothing.
+-- Two lists, one after the other, at the front of an array: each of them, one place set, and the first dropped. Assumes nothing.
 use mathlib.Core.Path.{_≡_, sym, ap, _∙_}
 use Prim.Native.Nat.{ℕ, zero, suc, _+_, _-_, _≤_, _<_}
 use native.Mathlib.Omega.{arith}
 use mathlib.Core.List.{List, [], _∷_, _++_, append-assoc, append-nil}
 use lib.ListN.{length, take, drop, getD, set, length-append, length-drop, take-append-drop}
-use lib.Seq.{set-split, set-at, drop-cons, drop-drop, take-add, drop-append-le, append-snoc, length-take-le}
+use lib.Seq.{set-split, set-at, drop-cons, drop-drop, take-add, drop-append-le, append-snoc, length-take-le, take-append-seam, drop-append-seam}
 use Rattle.lists.specs.Lists.{front}
 use Rattle.lists.specs.StoreLaws.{front-of}
 use Rattle.lists.specs.MoveLaws.{movedUp}
 
 module _ {A : Type 0} (j : List A) where
-  -- one place is set, and so many after it are told too
+  -- one place is set, and so many after it are named as they were
   pub store-front : (k m : ℕ) (e : A) → suc k + m ≤ length j → set j k e ≡ front (take k j ++ e ∷ take m (drop (suc k) j)) j
   store-front k m e h =
       let a : length (take k j) ≡ k = length-take-le k j (omega arith) in
@@ -66,3 +66,16 @@ module _ {A : Type 0} (j : List A) where
         ∙ sym (append-assoc (p ++ (e ∷ [])) t (drop (n + m) j))
         ∙ front-of ((p ++ (e ∷ [])) ++ t) j (n + m) (length-append (p ++ (e ∷ [])) t ∙ ap (λ (k : ℕ). k + length t) (length-append p (e ∷ [])) ∙ omega (arith, lp, l))
         ∙ ap (λ (x : List A). front ((p ++ (e ∷ [])) ++ drop 1 (take (suc m) x)) j) (sym c)
+
+module _ {A : Type 0} where
+  pub first-part : (K F j : List A) → take (length K) (front (K ++ F) j) ≡ K
+  unfolding front
+  first-part K F j =
+      ap (λ (l : List A). take (length K) l) (append-assoc K F (drop (length (K ++ F)) j)) ∙ take-append-seam K (F ++ drop (length (K ++ F)) j)
+
+  pub second-part : (K F j : List A) → take (length F) (drop (length K) (front (K ++ F) j)) ≡ F
+  unfolding front
+  second-part K F j =
+      ap (λ (l : List A). take (length F) (drop (length K) l)) (append-assoc K F (drop (length (K ++ F)) j))
+      ∙ ap (λ (l : List A). take (length F) l) (drop-append-seam K (F ++ drop (length (K ++ F)) j))
+      ∙ take-append-seam F (drop (length (K ++ F)) j)
