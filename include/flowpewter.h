@@ -21,13 +21,13 @@
  * Stack. Boards are passed and returned by value, and working space is on the stack. No call takes 256 KB of it.
  * Measured by tests/stack.c: a replay 144 KB, an edit 118 KB, a build 111 KB, flowpewter_sound 58 KB, flowpewter_empty
  * 29 KB, any other call next to nothing; a board in a variable of your own is 29 KB more. The usual 8 MB of a Linux
- * thread is plenty. A thread with a small stack is not: musl gives 128 KiB where nothing is said, and an edit or a build
- * beside a board of your own would run over its end. There, ask for 512 KB by pthread_attr_setstacksize.
+ * thread is plenty. A thread with a small stack is not: musl gives 128 KiB where nothing is said, and an edit or a
+ * build beside a board of your own would run over its end. There, ask for 512 KB by pthread_attr_setstacksize.
  *
  * Comparing boards. Two boards are the same when their counts, their first `count` rows, their kept and undone numbers
  * and their first `kept + undone` journal entries are; of an entry that takes a row out, `row` isn't read and doesn't
- * count. Don't compare boards by memcmp: they have no padding, but places beyond those hold what was left there.
- * flowpewter_edited and flowpewter_replayed have padding too.
+ * count. Don't compare boards by memcmp: places beyond those hold what was left there, and flowpewter_edited and
+ * flowpewter_replayed have padding.
  */
 #ifndef FLOWPEWTER_H
 #define FLOWPEWTER_H
@@ -103,8 +103,9 @@ enum {
 };
 
 /* A change of the rows, which an undo or a redo carries out. `at` is a place, counted from 0. An entry can be carried
- * out when `at` is below the count, or to put in at most the count, and it leaves at most 1,024 rows, each with numeral
- * 1 or more. Of an entry that takes a row out, edits make `row` that row, and nothing reads it. */
+ * out when its place is there (`at` below the count; to put in, at most the count) and the rows afterwards are at most
+ * 1,024, each with numeral 1 or more. Of an entry that takes a row out, edits make `row` that row, and nothing reads
+ * it. */
 typedef struct flowpewter_entry {
     uint32_t kind;
     uint32_t at;
@@ -113,7 +114,8 @@ typedef struct flowpewter_entry {
 
 /* A board: `count` rows, and a journal that is one tape with a cursor. The first `kept` entries are the steps to undo,
  * oldest first; the next `undone` entries are the steps to redo, newest first. So an undo carries out journal[kept - 1]
- * and a redo journal[kept]; each leaves the entry that leads back in that place, and moves the cursor over it.
+ * and a redo journal[kept]; each leaves the entry that leads back in that place, and moves the cursor over it. Where a
+ * 257th step is kept, by an add, withdraw, remark or redo, the entries move up by one first and the oldest goes.
  *
  * Row numbers are counted from 1: row number k is rows[k - 1]. A board may come from anywhere; a call on one that isn't
  * sound is refused. */
@@ -135,11 +137,12 @@ flowpewter_board flowpewter_empty(void);
 
 /* Whether the count is at most 1,024, the kept number and the undone number at most 256 each, every held row has
  * numeral 1 or more, and the newest kept entry and the newest undone one (if any) can each be carried out on the held
- * rows. Every board that edits make from the empty one is sound. */
+ * rows. Every board that edits make from the empty one is sound. Older entries aren't looked at: on a board from
+ * elsewhere an undo or a redo can leave one that isn't sound. */
 bool flowpewter_sound(flowpewter_board board);
 
-/* An accepted add, withdraw or remark becomes the newest kept step, of which the oldest beyond 256 is forgotten, and
- * all undone steps are forgotten. */
+/* An accepted add, withdraw or remark becomes the newest kept step; of 257 the oldest is forgotten, and so are all
+ * undone steps. */
 
 /* Puts the row at the end. 1, 2, 3. */
 flowpewter_edited flowpewter_add(flowpewter_board board, flowpewter_row row);

@@ -31,8 +31,9 @@ impl Row {
 
 /// A journal entry: a change of the rows, which an undo or a redo carries out. `at` is a place, counted from 0.
 ///
-/// It can be carried out when `at` is below the count, or to put in at most the count, and it leaves at most 1,024
-/// rows, each with numeral 1 or more. Of an entry that takes a row out, edits make `row` that row, and nothing reads it.
+/// An entry can be carried out when its place is there (`at` below the count; to put in, at most the count) and the
+/// rows afterwards are at most 1,024, each with numeral 1 or more. Of an entry that takes a row out, edits make `row`
+/// that row, and nothing reads it.
 #[repr(C)]
 #[derive(Clone, Copy, Debug, PartialEq, Eq, Hash, Default)]
 pub struct Entry {
@@ -55,8 +56,11 @@ impl Entry {
 ///
 /// The first `kept` entries of the journal are the steps to undo, oldest first; the next `undone` entries are the steps
 /// to redo, newest first. So an undo carries out `journal[kept - 1]` and a redo `journal[kept]`; each leaves the entry
-/// that leads back in that place, and moves the cursor over it. An accepted add, withdraw or remark becomes the newest
-/// kept step, of which the oldest beyond 256 is forgotten, and all undone steps are forgotten.
+/// that leads back in that place, and moves the cursor over it. Where a 257th step is kept, by an add, withdraw, remark
+/// or redo, the entries move up by one first and the oldest goes.
+///
+/// An accepted add, withdraw or remark becomes the newest kept step; of 257 the oldest is forgotten, and so are all
+/// undone steps.
 ///
 /// ```
 /// use flowpewter::{Board, Refusal, Row};
@@ -82,9 +86,9 @@ impl Entry {
 /// The fields are open since a board may come from anywhere: a call on one that isn't sound is refused. Row number k is
 /// `rows[k - 1]`.
 ///
-/// Two boards are the same when what they hold is: [`Board::held`], [`Board::kept_steps`] and [`Board::undone_steps`],
-/// an entry that takes a row out without its own row. `==` compares all places, also those beyond, which hold what was
-/// left there.
+/// Two boards are the same when what they hold is: [`Board::held`], [`Board::kept_steps`] and [`Board::undone_steps`];
+/// of an entry that takes a row out, `row` doesn't count. `==` compares all places, also those beyond, which hold what
+/// was left there.
 ///
 /// ```
 /// use flowpewter::{Board, Refusal, Row};
@@ -174,6 +178,7 @@ impl Board {
     /// Whether the board is one that edits and builds take: the count is at most 1,024, the kept number and the undone
     /// number at most 256 each, every held row has numeral 1 or more, and the newest kept entry and the newest undone
     /// one, if any, can each be carried out on the held rows. Every board that edits make from the empty one is sound.
+    /// Older entries aren't looked at: on a board from elsewhere an undo or a redo can leave one that isn't sound.
     ///
     /// ```
     /// use flowpewter::Board;
@@ -261,8 +266,9 @@ impl Call {
     }
 }
 
-/// Runs the calls that the words tell, five to a call, from the empty board. The refusal number of each call, 0 for none,
-/// goes to the front of `refusals`; the rest stays. Answers the board after the calls. Refused with 101, 102 or 103.
+/// Runs the calls that the words tell, five to a call, from the empty board. The refusal number of each call, 0 for
+/// none, goes to the front of `refusals`; the rest stays. Answers the board after the calls. Refused with 101, 102 or
+/// 103.
 ///
 /// ```
 /// use flowpewter::{replay, Call, Refusal, Row};

@@ -1,6 +1,6 @@
 //! Parts lists with undo and redo, their forest of paths as an index, navigation and sums.
 //!
-//! * [`Board`]: rows with a parent, a numeral, an order and minutes; edits, undo and redo.
+//! * [`Board`]: rows with a parent, a numeral, an order and minutes; add, withdraw, remark, undo and redo.
 //! * [`build`]: the forest of a board's paths as an index, and running totals of the minutes.
 //! * [`span`], [`descendants`], [`ancestors`], [`siblings`]: navigation by rank.
 //! * [`subtree_sum`], [`path_sum`]: minutes below a node and on the way up from it.
@@ -10,8 +10,8 @@
 //! Every call takes every argument: what can't be done is refused, by a [`Refusal`], and never a panic.
 //!
 //! Boards are passed by value and working space is on the stack: a replay takes some 145 KB of it, a build or an edit
-//! up to 120 KB, and a board in a variable is 29 KB more. That is little for the 2 MB of a Rust thread; a thread made with
-//! `Builder::stack_size` wants 512 KB. The library that is linked is compiled for x86-64 Linux alone.
+//! up to 120 KB, and a board in a variable is 29 KB more. That is little for the 2 MB of a Rust thread; a thread made
+//! with `Builder::stack_size` wants 512 KB. The library that is linked is compiled for x86-64 Linux alone.
 #![deny(unsafe_code)]
 
 mod board;
