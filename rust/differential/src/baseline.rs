@@ -131,7 +131,7 @@ pub fn redo(mut board: Board) -> Edited {
     Edited { board, refusal }
 }
 
-/// A call through the C face that does nothing: what handing a board over and back costs by itself.
+/// A call by the C convention that does nothing: what handing a board over and back costs by itself.
 pub fn nothing(board: &Board) -> Edited {
     unchanged(*board)
 }

@@ -1,9 +1,10 @@
 //! Edits, soundness and replay.
 
+use crate::baseline;
 use crate::tally::Tally;
 use flowpewter::sys::{self, Edited};
-use flowpewter::{Board, Entry, Row};
-use generate::{history, sound_boards, unsound_boards, History, Random};
+use flowpewter::{Board, Entry, Row, MAX_KEPT, MAX_UNDONE};
+use generate::{history, history_on, sound_boards, unsound_boards, History, Random};
 use reference::{Call, Machine};
 
 fn row(row: reference::Row) -> Row {
@@ -36,66 +37,106 @@ fn edit(board: &Board, call: Call) -> Edited {
     }
 }
 
-fn name(call: Call) -> &'static str {
+/// The baseline's edit; it has no withdrawal and no remark.
+fn by_baseline(board: Board, call: Call) -> Option<Edited> {
+    match call {
+        Call::Add(added) => Some(baseline::add(board, row(added))),
+        Call::Undo => Some(baseline::undo(board)),
+        Call::Redo => Some(baseline::redo(board)),
+        Call::Withdraw(_) | Call::Remark(..) => None,
+    }
+}
+
+/// The name under which a call on the board is counted. Undos and redos that drop a step have names of their own: no
+/// board that calls make from the empty one has them.
+fn name(board: &Board, call: Call, refusal: u32) -> &'static str {
     match call {
         Call::Add(_) => "add",
         Call::Withdraw(_) => "withdraw",
         Call::Remark(..) => "remark",
+        Call::Undo if refusal == 0 && board.undone == MAX_UNDONE => "undo that drops",
         Call::Undo => "undo",
+        Call::Redo if refusal == 0 && board.kept == MAX_KEPT => "redo that drops",
         Call::Redo => "redo",
     }
 }
 
-/// One call on both sides; answers the refusal and the boards after it.
+/// One call on both sides, and by the baseline; answers the refusal and the boards after it.
 fn compare(
     library: &Board,
     reference: reference::Board,
     call: Call,
-    tally: &mut Tally,
 ) -> (u32, Board, reference::Board) {
     let edited = edit(library, call);
     let expected = reference.call(call);
-    tally.note(name(call), expected.refusal);
     assert_eq!(edited.refusal, expected.refusal, "{call:?}");
     assert!(edited.board == board(&expected.board), "{call:?} leaves another board");
     if edited.refusal != 0 {
         assert!(edited.board == *library, "the refused {call:?} changes the board");
     }
+    assert!(by_baseline(*library, call).is_none_or(|other| other == edited), "baseline, {call:?}");
     (edited.refusal, edited.board, expected.board)
 }
 
-/// One list of calls from the empty board against the plain machine and the reference's board, then undone to the bottom
-/// and redone to the top.
-pub fn histories(random: &mut Random, kind: History, tally: &mut Tally) {
-    let mut machine = Machine::new();
-    let mut library = sys::empty();
-    let mut reference = reference::Board::EMPTY;
-    assert!(library == Board::EMPTY);
-    let mut step = |call: Call| {
-        let refusal = machine.call(call);
-        let answer = compare(&library, reference.clone(), call, tally);
-        assert_eq!(answer.0, refusal, "{call:?}");
-        (library, reference) = (answer.1, answer.2);
-        assert_eq!(library.held(), held(&machine));
-        assert_eq!(library.kept, machine.kept.len());
-        assert_eq!(library.undone, machine.undone.len());
-        assert!(sys::sound(&library));
-        refusal
-    };
-    for call in history(random, kind) {
-        step(call);
-    }
-    while step(Call::Undo) == 0 {}
-    while step(Call::Redo) == 0 {}
+/// The library's board, the reference's of the same words, and the plain machine of the same R, K and F.
+struct Followed {
+    library: Board,
+    reference: reference::Board,
+    machine: Machine,
 }
 
-/// Any call on boards that no history makes, sound and not, then undo and redo on what it leaves.
+impl Followed {
+    /// One call on all three; answers the refusal.
+    fn call(&mut self, call: Call) -> u32 {
+        let refusal = self.machine.call(call);
+        let answer = compare(&self.library, self.reference.clone(), call);
+        assert_eq!(answer.0, refusal, "{call:?}");
+        (self.library, self.reference) = (answer.1, answer.2);
+        assert_eq!(self.library.held(), held(&self.machine));
+        assert_eq!(self.library.kept, self.machine.kept.len());
+        assert_eq!(self.library.undone, self.machine.undone.len());
+        assert!(sys::sound(&self.library));
+        refusal
+    }
+
+    fn calls(&mut self, calls: &[Call], tally: &mut Tally) {
+        for call in calls {
+            let before = self.library;
+            let refusal = self.call(*call);
+            tally.note(name(&before, *call, refusal), refusal);
+        }
+    }
+
+    /// The same call until it is refused.
+    fn to_the_end(&mut self, call: Call, name: &'static str, tally: &mut Tally) {
+        let mut refusal = 0;
+        while refusal == 0 {
+            refusal = self.call(call);
+            tally.note(name, refusal);
+        }
+    }
+}
+
+/// One list of calls from the empty board against the plain machine and the reference's board, then undone to the
+/// bottom and redone to the top.
+pub fn histories(random: &mut Random, kind: History, tally: &mut Tally) {
+    let library = sys::empty();
+    assert!(library == Board::EMPTY);
+    let (reference, machine) = (reference::Board::EMPTY, Machine::new());
+    let mut followed = Followed { library, reference, machine };
+    followed.calls(&history(random, kind), tally);
+    followed.to_the_end(Call::Undo, "undo to the bottom", tally);
+    followed.to_the_end(Call::Redo, "redo to the top", tally);
+}
+
+/// Any call on boards that no history makes, sound and not, then undo and redo on what it leaves; where every entry can
+/// be carried out in its turn, also a list of calls against the plain machine.
 pub fn boards(random: &mut Random, tally: &mut Tally) {
     let mut all = unsound_boards(random);
     all.extend(sound_boards(random));
-    for (name, reference) in all {
+    for (kind, reference) in all {
         let library = board(&reference);
-        assert_eq!(sys::sound(&library), reference.sound(), "{name}");
+        assert_eq!(sys::sound(&library), reference.sound(), "{kind}");
         let near = reference.count.min(2_000);
         for call in [
             Call::Add(random.any_row()),
@@ -105,11 +146,20 @@ pub fn boards(random: &mut Random, tally: &mut Tally) {
             Call::Undo,
             Call::Redo,
         ] {
-            let (_, after, expected) = compare(&library, reference.clone(), call, tally);
-            assert_eq!(sys::sound(&after), expected.sound(), "{name}, {call:?}");
+            let (refusal, after, expected) = compare(&library, reference.clone(), call);
+            tally.note(name(&library, call, refusal), refusal);
+            assert_eq!(sys::sound(&after), expected.sound(), "{kind}, {call:?}");
             for next in [Call::Undo, Call::Redo] {
-                compare(&after, expected.clone(), next, tally);
+                let (refusal, ..) = compare(&after, expected.clone(), next);
+                tally.note(name(&after, next, refusal), refusal);
             }
+        }
+        if !reference.sound() {
+            continue;
+        }
+        if let Some(machine) = reference.machine() {
+            let calls = history_on(random, &machine);
+            Followed { library, reference, machine }.calls(&calls, tally);
         }
     }
 }

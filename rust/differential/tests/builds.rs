@@ -38,6 +38,7 @@ fn unsound_boards() {
     }
     println!("{tally}");
     tally.expect("build", &[1], 1_000);
+    tally.expect("build_default", &[1], 50);
 }
 
 #[test]

@@ -18,6 +18,8 @@ fn histories() {
     tally.expect("remark", &[0, 4], 100);
     tally.expect("undo", &[0, 5], 100);
     tally.expect("redo", &[0, 17], 100);
+    tally.expect("undo to the bottom", &[0, 5], 500);
+    tally.expect("redo to the top", &[0, 17], 500);
 }
 
 #[test]
@@ -32,7 +34,9 @@ fn boards_that_no_history_makes() {
     tally.expect("withdraw", &[0, 1, 4], 100);
     tally.expect("remark", &[0, 1, 4], 100);
     tally.expect("undo", &[0, 1, 5], 100);
+    tally.expect("undo that drops", &[0], 10_000);
     tally.expect("redo", &[0, 1, 17], 100);
+    tally.expect("redo that drops", &[0], 10_000);
 }
 
 #[test]

@@ -99,11 +99,11 @@ fn good_entry(random: &mut Random, count: usize) -> Entry {
     match random.pick(&kinds) {
         PUT_IN => {
             let at = random.between(0, count);
-            good(random, PUT_IN, at)
+            with_a_row(random, PUT_IN, at)
         }
         SET => {
             let at = random.below(count);
-            good(random, SET, at)
+            with_a_row(random, SET, at)
         }
         _ => {
             let at = random.below(count) as u32;
@@ -124,20 +124,22 @@ fn some_good_entry(random: &mut Random, count: usize) -> Option<Entry> {
 /// An entry that can't be carried out on `count` rows.
 fn bad_entry(random: &mut Random, count: usize) -> Entry {
     match random.below(6) {
-        0 => good(random, 3, 0),
-        1 => good(random, TAKE_OUT, count),
-        2 => good(random, PUT_IN, count + 1),
-        3 => nought(random, PUT_IN, 0),
-        4 => good(random, SET, count),
-        _ => nought(random, SET, 0),
+        0 => with_a_row(random, 3, 0),
+        1 => with_a_row(random, TAKE_OUT, count),
+        2 => with_a_row(random, PUT_IN, count + 1),
+        3 => with_numeral_0(random, PUT_IN, 0),
+        4 => with_a_row(random, SET, count),
+        _ => with_numeral_0(random, SET, 0),
     }
 }
 
-fn good(random: &mut Random, kind: u32, at: usize) -> Entry {
+/// An entry of the kind for the place, with a row of numeral 1 or more.
+fn with_a_row(random: &mut Random, kind: u32, at: usize) -> Entry {
     Entry { kind, at: at as u32, row: random.row() }
 }
 
-fn nought(random: &mut Random, kind: u32, at: usize) -> Entry {
+/// An entry of the kind for the place, with a row of numeral 0.
+fn with_numeral_0(random: &mut Random, kind: u32, at: usize) -> Entry {
     Entry { kind, at: at as u32, row: Row { numeral: 0, ..random.row() } }
 }
 
@@ -160,20 +162,20 @@ fn bad_entries(random: &mut Random) -> Vec<Newest> {
     let (inside, within) = (random.below(count), random.between(0, count));
     let anywhere = random.between(0, MAX_ROWS);
     vec![
-        (both!("take-out from no rows"), 0, good(random, TAKE_OUT, 0)),
-        (both!("take-out at the end"), some, good(random, TAKE_OUT, some)),
-        (both!("take-out at the widest place"), count, good(random, TAKE_OUT, widest)),
-        (both!("take-out beyond the places"), MAX_ROWS, good(random, TAKE_OUT, MAX_ROWS)),
-        (both!("put-in beyond the end"), short, good(random, PUT_IN, short + 1)),
-        (both!("put-in at the widest place"), count, good(random, PUT_IN, widest)),
-        (both!("put-in on 1,024 rows"), MAX_ROWS, good(random, PUT_IN, anywhere)),
-        (both!("put-in of numeral 0"), count, nought(random, PUT_IN, within)),
-        (both!("set at the end"), some, good(random, SET, some)),
-        (both!("set at the widest place"), count, good(random, SET, widest)),
-        (both!("set beyond the places"), MAX_ROWS, good(random, SET, MAX_ROWS)),
-        (both!("set to numeral 0"), count, nought(random, SET, inside)),
-        (both!("entry of kind 3"), count, good(random, 3, 0)),
-        (both!("entry of the widest kind"), count, good(random, u32::MAX, 0)),
+        (both!("take-out from no rows"), 0, with_a_row(random, TAKE_OUT, 0)),
+        (both!("take-out at the end"), some, with_a_row(random, TAKE_OUT, some)),
+        (both!("take-out at the widest place"), count, with_a_row(random, TAKE_OUT, widest)),
+        (both!("take-out beyond the places"), MAX_ROWS, with_a_row(random, TAKE_OUT, MAX_ROWS)),
+        (both!("put-in beyond the end"), short, with_a_row(random, PUT_IN, short + 1)),
+        (both!("put-in at the widest place"), count, with_a_row(random, PUT_IN, widest)),
+        (both!("put-in on 1,024 rows"), MAX_ROWS, with_a_row(random, PUT_IN, anywhere)),
+        (both!("put-in of numeral 0"), count, with_numeral_0(random, PUT_IN, within)),
+        (both!("set at the end"), some, with_a_row(random, SET, some)),
+        (both!("set at the widest place"), count, with_a_row(random, SET, widest)),
+        (both!("set beyond the places"), MAX_ROWS, with_a_row(random, SET, MAX_ROWS)),
+        (both!("set to numeral 0"), count, with_numeral_0(random, SET, inside)),
+        (both!("entry of kind 3"), count, with_a_row(random, 3, 0)),
+        (both!("entry of the widest kind"), count, with_a_row(random, u32::MAX, 0)),
     ]
 }
 
@@ -182,17 +184,25 @@ fn good_entries(random: &mut Random) -> Vec<Newest> {
     let count = random.between(1, 40);
     let inside = random.below(count);
     vec![
-        (both!("take-out of the first row"), count, good(random, TAKE_OUT, 0)),
-        (both!("take-out with an unused numeral 0"), count, nought(random, TAKE_OUT, inside)),
-        (both!("take-out of the last row"), count, good(random, TAKE_OUT, count - 1)),
-        (both!("take-out of the only row"), 1, good(random, TAKE_OUT, 0)),
-        (both!("take-out of the last place"), MAX_ROWS, nought(random, TAKE_OUT, MAX_ROWS - 1)),
-        (both!("put-in at the front"), count, good(random, PUT_IN, 0)),
-        (both!("put-in at the end"), count, good(random, PUT_IN, count)),
-        (both!("put-in of the only row"), 0, good(random, PUT_IN, 0)),
-        (both!("put-in of the last place"), MAX_ROWS - 1, good(random, PUT_IN, MAX_ROWS - 1)),
-        (both!("set of a whole row"), count, good(random, SET, inside)),
-        (both!("set of the last place"), MAX_ROWS, good(random, SET, MAX_ROWS - 1)),
+        (both!("take-out of the first row"), count, with_a_row(random, TAKE_OUT, 0)),
+        (
+            both!("take-out with an unused numeral 0"),
+            count,
+            with_numeral_0(random, TAKE_OUT, inside),
+        ),
+        (both!("take-out of the last row"), count, with_a_row(random, TAKE_OUT, count - 1)),
+        (both!("take-out of the only row"), 1, with_a_row(random, TAKE_OUT, 0)),
+        (
+            both!("take-out of the last place"),
+            MAX_ROWS,
+            with_numeral_0(random, TAKE_OUT, MAX_ROWS - 1),
+        ),
+        (both!("put-in at the front"), count, with_a_row(random, PUT_IN, 0)),
+        (both!("put-in at the end"), count, with_a_row(random, PUT_IN, count)),
+        (both!("put-in of the only row"), 0, with_a_row(random, PUT_IN, 0)),
+        (both!("put-in of the last place"), MAX_ROWS - 1, with_a_row(random, PUT_IN, MAX_ROWS - 1)),
+        (both!("set of a whole row"), count, with_a_row(random, SET, inside)),
+        (both!("set of the last place"), MAX_ROWS, with_a_row(random, SET, MAX_ROWS - 1)),
     ]
 }
 

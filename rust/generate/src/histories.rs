@@ -16,7 +16,8 @@ pub enum History {
     /// Row numbers and rows of any words.
     Wild,
     /// Runs of undos and of redos, of any length, to the bottom and to the top
-    /// and one step further, with edits in between after which nothing is undone.
+    /// and one step further, in between adds, withdrawals and remarks, after
+    /// which nothing is undone.
     Runs,
 }
 
@@ -42,7 +43,7 @@ impl Writer {
     }
 
     /// Follows an accepted add, withdrawal or remark.
-    fn edit(&mut self, count: usize) {
+    fn change(&mut self, count: usize) {
         self.keep();
         self.count = count;
         self.undone.clear();
@@ -54,17 +55,17 @@ impl Writer {
         match call {
             Call::Add(row) => {
                 if row.numeral != 0 && self.count < MAX_ROWS {
-                    self.edit(self.count + 1);
+                    self.change(self.count + 1);
                 }
             }
             Call::Withdraw(k) => {
                 if (1..=self.count).contains(&k) {
-                    self.edit(self.count - 1);
+                    self.change(self.count - 1);
                 }
             }
             Call::Remark(k, _) => {
                 if (1..=self.count).contains(&k) {
-                    self.edit(self.count);
+                    self.change(self.count);
                 }
             }
             Call::Undo => {
@@ -239,12 +240,12 @@ pub fn history(random: &mut Random, kind: History) -> Vec<Call> {
         }
         History::Runs => {
             for _ in 0..random.between(2, 8) {
-                let edits = match random.below(8) {
+                let changes = match random.below(8) {
                     0 => random.between(250, 300),
                     1..=3 => 1,
                     _ => random.between(2, 30),
                 };
-                for _ in 0..edits {
+                for _ in 0..changes {
                     writer.weighted(random, [4, 2, 4, 0, 0]);
                 }
                 writer.runs(random);
@@ -255,7 +256,8 @@ pub fn history(random: &mut Random, kind: History) -> Vec<Call> {
 }
 
 /// A random list of calls on a board whose journal gives the K and F of
-/// `machine`: runs of undos and redos, with few edits in between.
+/// `machine`: runs of undos and redos, in between a few adds, withdrawals and
+/// remarks.
 pub fn history_on(random: &mut Random, machine: &Machine) -> Vec<Call> {
     let counts = |lists: &[Vec<Row>]| lists.iter().rev().map(Vec::len).collect();
     let mut writer = Writer {

@@ -114,7 +114,7 @@ fn full_histories_reach_the_places() {
     assert!(refusals.contains(&3));
 }
 
-/// What histories of runs come to: both ends and one step further, and edits that empty F.
+/// What histories of runs come to: both ends and one step further, and changes that empty F.
 #[test]
 fn runs_reach_both_ends() {
     let mut random = Random::announced("runs", 16);
@@ -138,7 +138,7 @@ fn runs_reach_both_ends() {
         }
     }
     println!("undos refused at the bottom {bottom}, redos at the top {top}, redos {redone}");
-    println!("edits that empty F {emptied}, refused ones that don't {left}, longest F {longest}");
+    println!("changes that empty F {emptied}, refused ones that don't {left}, longest F {longest}");
     assert!([bottom, top, emptied, left].iter().all(|times| *times > 20));
     assert!(redone > 1_000);
     assert_eq!(longest, 256);
@@ -200,8 +200,8 @@ fn sound() {
         for (name, board) in boards {
             assert!(board.sound(), "{name}");
             let rows = board.held().to_vec();
-            // Whatever edit comes, nothing stays undone, undoing it gives the rows back, and
-            // redoing it the edited board.
+            // After an add, withdraw or remark nothing stays undone, undoing it gives the rows back,
+            // and redoing it the edited board.
             for call in [Call::Add(random.row()), Call::Withdraw(1), Call::Remark(1, 5)] {
                 let edited = board.clone().call(call);
                 if edited.refusal == 0 {

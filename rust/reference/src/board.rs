@@ -90,7 +90,7 @@ pub fn carried_out(rows: &[Row], entry: &Entry) -> Option<Vec<Row>> {
     Some(list)
 }
 
-/// The entry that leads back to `rows` once `entry`, which can be carried out on them, was.
+/// The entry that leads back to `rows` after `entry` was carried out on them.
 pub fn inverse(rows: &[Row], entry: &Entry) -> Entry {
     let at = entry.at;
     match entry.kind {
@@ -117,7 +117,7 @@ impl Board {
     }
 
     /// The kept entries, oldest first; of a kept number above 256 the first 256.
-    pub fn entries(&self) -> &[Entry] {
+    pub fn kept_entries(&self) -> &[Entry] {
         &self.journal[..self.kept.min(MAX_KEPT)]
     }
 
@@ -160,7 +160,7 @@ impl Board {
         let mut machine = Machine::new();
         machine.rows = self.held().to_vec();
         let mut rows = self.held().to_vec();
-        for entry in self.entries().iter().rev() {
+        for entry in self.kept_entries().iter().rev() {
             rows = carried_out(&rows, entry)?;
             machine.kept.push(rows.clone());
         }
@@ -280,7 +280,7 @@ impl Board {
             && self.kept == other.kept
             && self.undone == other.undone
             && self.held() == other.held()
-            && alike(self.entries(), other.entries())
+            && alike(self.kept_entries(), other.kept_entries())
             && alike(self.undone_entries(), other.undone_entries())
     }
 

@@ -556,7 +556,7 @@ fn the_oldest_of_257_entries_is_dropped() {
     assert_eq!(edited.refusal, 0);
     entries.remove(0);
     entries.push(Entry { kind: SET, at: 0, row: row(0, 1, 1) });
-    assert!(edited.board.entries() == entries);
+    assert!(edited.board.kept_entries() == entries);
 }
 
 // Undo and redo.
@@ -668,7 +668,7 @@ fn redo_is_refused_with_nothing_undone() {
         (redo, 17, 0, 0),
         (undo, 5, 0, 0),
         (add, 0, 1, 0),
-        // After an edit.
+        // After an add.
         (redo, 17, 1, 0),
         (undo, 0, 0, 1),
         (undo, 5, 0, 1),
@@ -678,7 +678,7 @@ fn redo_is_refused_with_nothing_undone() {
         (undo, 0, 1, 1),
         (undo, 0, 0, 2),
         (redo, 0, 1, 1),
-        // Refused edits keep what is undone.
+        // Refused calls keep what is undone.
         (Call::Add(row(0, 0, 1)), 2, 1, 1),
         (Call::Withdraw(0), 4, 1, 1),
         (Call::Withdraw(2), 4, 1, 1),
@@ -686,7 +686,7 @@ fn redo_is_refused_with_nothing_undone() {
         (Call::Remark(2, 3), 4, 1, 1),
         (redo, 0, 2, 0),
         (undo, 0, 1, 1),
-        // Each accepted edit empties it, also one that changes no word.
+        // Each accepted add, withdraw or remark empties it, also one that changes no word.
         (Call::Remark(1, 1), 0, 2, 0),
         (redo, 17, 2, 0),
         (undo, 0, 1, 1),
@@ -752,8 +752,8 @@ fn set(minutes: i32) -> Entry {
     Entry { kind: SET, at: 0, row: timed(minutes) }
 }
 
-/// Minutes 0 on the only row, with minutes −1 to −256 kept and 1 to 256 undone, and −999 in the
-/// words that count for neither.
+/// Minutes 0 on the only row, with minutes −1 to −`kept` kept and 1 to `undone` undone, and −999 in
+/// the words that count for neither.
 fn stretched(kept: i32, undone: i32) -> Board {
     let earlier: Vec<Entry> = (1..=kept).rev().map(|k| set(-k)).collect();
     let later: Vec<Entry> = (1..=undone).map(set).collect();
@@ -964,7 +964,7 @@ fn what_counts_when_boards_are_compared() {
     differs(|other| other.journal[1].row.minutes = 8);
     // The places are told apart by the two numbers alone.
     differs(|other| (other.kept, other.undone) = (2, 0));
-    assert_eq!(board.entries(), [entry(TAKE_OUT, 0, 5)]);
+    assert_eq!(board.kept_entries(), [entry(TAKE_OUT, 0, 5)]);
     assert_eq!(board.undone_entries(), [entry(SET, 0, 6)]);
 }
 

@@ -167,7 +167,7 @@ fn m8_withdraw_and_undo() {
     let edited = edited.board.undo();
     assert_eq!(edited.refusal, 0);
     assert_eq!(edited.board.held(), marked_rows());
-    assert_eq!(edited.board.entries(), marked_board().entries());
+    assert_eq!(edited.board.kept_entries(), marked_board().kept_entries());
     assert_eq!(edited.board.machine(), Some(machine));
 }
 

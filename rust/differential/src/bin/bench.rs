@@ -1,6 +1,7 @@
-//! Times of the library and of the same jobs in plain Rust (`differential::baseline`), taken in turn in one run, best of several.
-//! Prints one line for each job, then how many copies of the board an edit's time beyond that of a call that does nothing comes to,
-//! then the same node lists by recursive queries of the databases that are installed.
+//! Times of the library and of the same jobs in plain Rust (`differential::baseline`), taken in turn in one run, best
+//! of several. Prints one line for each job, and for an edit by value how many copies of the board its time comes to
+//! beyond that of a call that does nothing; then the same node lists by recursive queries of the databases that are
+//! installed.
 #![forbid(unsafe_code)]
 
 use differential::baseline;
@@ -86,9 +87,14 @@ fn race(rounds: u32, mut library: impl FnMut(), mut rust: impl FnMut()) -> (f64,
     best
 }
 
-fn print(job: &str, work: &str, (library, rust): (f64, f64)) {
+/// The first five columns of a line.
+fn line(job: &str, work: &str, (library, rust): (f64, f64)) -> String {
     let (l, r) = (library / 1_000.0, rust / 1_000.0);
-    println!("| {job} | {work} | {l:.2} | {r:.2} | {:.2} |", library / rust);
+    format!("| {job} | {work} | {l:.2} | {r:.2} | {:.2} |", library / rust)
+}
+
+fn print(job: &str, work: &str, times: (f64, f64)) {
+    println!("{} |", line(job, work, times));
 }
 
 /// Answers the library's time in microseconds.
@@ -107,23 +113,63 @@ fn builds(job: &str, rows: &[Row], code: u32, rounds: u32) -> f64 {
             black_box(sys::build(black_box(&board), code, None, None, &mut index, &mut totals));
         },
         || {
-            black_box(baseline::build(black_box(&board), code, None, None, &mut other, &mut others));
+            let board = black_box(&board);
+            black_box(baseline::build(board, code, None, None, &mut other, &mut others));
         },
     );
     print(job, &format!("{} rows, {} nodes", rows.len(), built.nodes), times);
     times.0 / 1_000.0
 }
 
-/// An edit by value on both sides, then against Rust in place; answers the times by value. In place, the numbers and the
-/// two entries beside the cursor are put back before each call, so that each has the same work.
+/// Times in nanoseconds of a call by the C convention that does nothing, and of one copy of the board.
+#[derive(Clone, Copy)]
+struct HandingOver {
+    nothing: f64,
+    copy: f64,
+}
+
+impl HandingOver {
+    /// Prints a line for each.
+    fn timed() -> HandingOver {
+        let board = stepped(Entry::SET, 100, 100);
+        assert_eq!(baseline::nothing(&board), Edited { board, refusal: 0 });
+        let mut other = board;
+        let (nothing, copy) = race(
+            1_000,
+            || {
+                black_box(baseline::nothing(black_box(&board)));
+            },
+            || {
+                other = *black_box(&board);
+                black_box(&mut other);
+            },
+        );
+        let work = format!("{} bytes", size_of::<Board>());
+        println!(
+            "| a call that does nothing, by value | {work} | | {:.2} | | |",
+            nothing / 1_000.0
+        );
+        println!("| one copy of the board | {work} | | {:.2} | | |", copy / 1_000.0);
+        HandingOver { nothing, copy }
+    }
+
+    /// The copies that a time comes to beyond that of a call that does nothing.
+    fn copies(self, time: f64) -> f64 {
+        (time - self.nothing) / self.copy
+    }
+}
+
+/// An edit by value on both sides, then against Rust in place. In place, the numbers and the two entries beside the
+/// cursor are put back before each call, so that each has the same work.
 fn edit(
+    handing_over: HandingOver,
     name: &str,
     work: &str,
     board: Board,
     library: impl Fn(&Board) -> Edited,
     by_value: impl Fn(Board) -> Edited,
     in_place: impl Fn(&mut Board) -> u32,
-) -> (f64, f64) {
+) {
     let edited = library(&board);
     assert_eq!(edited, by_value(board));
     let mut own = board;
@@ -136,7 +182,8 @@ fn edit(
     let times = race(1_000, library, || {
         black_box(by_value(*black_box(&board)));
     });
-    print(&format!("{name}, both by value"), work, times);
+    let by_value_line = line(&format!("{name}, both by value"), work, times);
+    println!("{by_value_line} {:.1} |", handing_over.copies(times.0));
     let places = board.kept - 1..=board.kept;
     let in_place_times = race(1_000, library, || {
         (own.count, own.kept, own.undone) = (board.count, board.kept, board.undone);
@@ -144,12 +191,12 @@ fn edit(
         black_box(in_place(black_box(&mut own)));
     });
     print(&format!("{name}, Rust in place"), work, in_place_times);
-    times
 }
 
-fn add(work: &str, board: Board) -> (f64, f64) {
+fn add(handing_over: HandingOver, work: &str, board: Board) {
     let row = Row::new(3, 5, 7, 9);
     edit(
+        handing_over,
         "add",
         work,
         board,
@@ -159,14 +206,14 @@ fn add(work: &str, board: Board) -> (f64, f64) {
     )
 }
 
-fn undo(step: &str, work: &str, board: Board) -> (f64, f64) {
+fn undo(handing_over: HandingOver, step: &str, work: &str, board: Board) {
     let name = format!("undo of a {step}");
-    edit(&name, work, board, sys::undo, baseline::undo, baseline::undo_in_place)
+    edit(handing_over, &name, work, board, sys::undo, baseline::undo, baseline::undo_in_place)
 }
 
-fn redo(step: &str, work: &str, board: Board) -> (f64, f64) {
+fn redo(handing_over: HandingOver, step: &str, work: &str, board: Board) {
     let name = format!("redo of a {step}");
-    edit(&name, work, board, sys::redo, baseline::redo, baseline::redo_in_place)
+    edit(handing_over, &name, work, board, sys::redo, baseline::redo, baseline::redo_in_place)
 }
 
 /// 1,000 rows of the chain, and so many kept and undone steps, each an entry of the kind for row 500.
@@ -176,40 +223,18 @@ fn stepped(kind: u32, kept: usize, undone: usize) -> Board {
     Board { kept, undone, journal: [entry; JOURNAL_PLACES], ..board }
 }
 
-/// Answers the times by value of an add, an undo and a redo with room in the journal.
-fn edits() -> [(&'static str, (f64, f64)); 3] {
+fn edits() {
     let room = "1,000 rows, room in the journal";
     let full = "1,000 rows, full journal";
-    let added = add(room, stepped(Entry::SET, 100, 100));
-    add(full, stepped(Entry::SET, 256, 256));
-    let undone = undo("remark", room, stepped(Entry::SET, 100, 100));
-    undo("remark", full, stepped(Entry::SET, 256, 256));
-    undo("withdrawal", room, stepped(Entry::PUT_IN, 100, 100));
-    let redone = redo("remark", room, stepped(Entry::SET, 100, 100));
-    redo("remark", full, stepped(Entry::SET, 256, 256));
-    redo("withdrawal", room, stepped(Entry::TAKE_OUT, 100, 100));
-    [("add", added), ("undo of a remark", undone), ("redo of a remark", redone)]
-}
-
-/// Answers the times of a call through the C face that does nothing, and of one copy of the board.
-fn handing_over() -> (f64, f64) {
-    let board = stepped(Entry::SET, 100, 100);
-    assert_eq!(baseline::nothing(&board), Edited { board, refusal: 0 });
-    let mut copy = board;
-    let (nothing, one) = race(
-        1_000,
-        || {
-            black_box(baseline::nothing(black_box(&board)));
-        },
-        || {
-            copy = *black_box(&board);
-            black_box(&mut copy);
-        },
-    );
-    let work = format!("{} bytes", size_of::<Board>());
-    println!("| a call that does nothing, by value | {work} | | {:.2} | |", nothing / 1_000.0);
-    println!("| one copy of the board | {work} | | {:.2} | |", one / 1_000.0);
-    (nothing, one)
+    let handing_over = HandingOver::timed();
+    add(handing_over, room, stepped(Entry::SET, 100, 100));
+    add(handing_over, full, stepped(Entry::SET, 256, 256));
+    undo(handing_over, "remark", room, stepped(Entry::SET, 100, 100));
+    undo(handing_over, "remark", full, stepped(Entry::SET, 256, 256));
+    undo(handing_over, "withdrawal", room, stepped(Entry::PUT_IN, 100, 100));
+    redo(handing_over, "remark", room, stepped(Entry::SET, 100, 100));
+    redo(handing_over, "remark", full, stepped(Entry::SET, 256, 256));
+    redo(handing_over, "withdrawal", room, stepped(Entry::TAKE_OUT, 100, 100));
 }
 
 fn navigation() {
@@ -263,8 +288,9 @@ fn queries(job: &str, rows: &[Row], library: f64) {
 }
 
 fn main() {
-    println!("| job | work | library, µs | Rust, µs | library / Rust |");
-    println!("|---|---|---|---|---|");
+    let copies = "library, copies of the board more than a call that does nothing";
+    println!("| job | work | library, µs | Rust, µs | library / Rust | {copies} |");
+    println!("|---|---|---|---|---|---|");
     let wide_time = builds("build, wide", &wide(), 0, 1);
     let tree_time = builds("build, tree", &tree(), 0, 20);
     builds("build, tree, orphans as roots", &tree(), 3, 20);
@@ -273,16 +299,8 @@ fn main() {
     builds("build, leaf roots", &leaves(), 0, 20);
     builds("build, cyclic", &cyclic(), 0, 20);
     builds("build, small", &small(), 0, 200);
-    let edit_times = edits();
-    let (nothing, copy) = handing_over();
+    edits();
     navigation();
-    println!();
-    println!("| time beyond a call that does nothing, in copies | library | Rust by value |");
-    println!("|---|---|---|");
-    for (name, (library, rust)) in edit_times {
-        let more = |time: f64| (time - nothing) / copy;
-        println!("| {name} | {:.1} | {:.1} |", more(library), more(rust));
-    }
     println!();
     println!("| node list | by | query, ms | query / library's build |");
     println!("|---|---|---|---|");
