@@ -21,31 +21,31 @@ use Rattle.rows.specs.declared.Call.{Call}
 use Rattle.rows.specs.declared.Call.the-variants.{Add, Withdraw, Remark, Undo, Redo}
 use Rattle.rows.specs.Journal.{carried, inverse, pushed, blank, noEntry, noRow, remarked}
 use Rattle.board.specs.Edits.{rowsOf, keptOf, undoneOf, newestOf, nextOf, soundOf, addRefusal, rowRefusal, undoRefusal, redoRefusal}
-use Rattle.rows.specs.PlanLayer.{atMost256, roomAfter, movesFor, placeNamed, entryChosen, rowChosen, editPlan, planOf, judgedPlan}
-use Rattle.rows.specs.PlanLaws.{few-le, room-less}
+use Rattle.rows.specs.PlanLayer.{atMost256, roomAfter, movesFor, placeNamed, entryChosen, rowChosen, changePlan, planOf, judgedPlan}
+use Rattle.rows.specs.PlanLaws.{at-most-le, room-less}
 use Rattle.board.specs.Laws.{count-kept, count-undone, sound-count, sound-kept, sound-undone}
 use Rattle.board.specs.OperationLaws.{refusalBy, operation, keptAfter, undoneAfter, boardAfter, row-there}
 
 -- ---- the numbers
 
-few-is : (n : ℕ) → n ≤ 256 → atMost256 n ≡ n
+at-most-is : (n : ℕ) → n ≤ 256 → atMost256 n ≡ n
 unfolding atMost256
-few-is n h = simp (le-leb n 256 h)
+at-most-is n h = simp (le-leb n 256 h)
 
-named-is : (n : ℕ) → n ≤ 1024 → placeNamed n ≡ n
+place-named-is : (n : ℕ) → n ≤ 1024 → placeNamed n ≡ n
 unfolding placeNamed
-named-is n h = simp (le-leb n 1024 h)
+place-named-is n h = simp (le-leb n 1024 h)
 
-moved-less : (kept along : ℕ) → along ≤ 256 → movesFor kept along < 512
+moves-less : (kept along : ℕ) → along ≤ 256 → movesFor kept along < 512
 unfolding movesFor
-moved-less kept along h = go (ltb kept 256) where
+moves-less kept along h = go (ltb kept 256) where
   go : (t : Bool) → cond t 0 (255 + along) < 512
   go true = omega arith
   go false = omega arith
 
 -- the number that refuses is the definition's
 pub refusal-is : (b : Board) (c : Call) → cond (soundOf b) (planOf c (b .count) (b .kept) (b .undone) .refusal) 1 ≡ refusalBy b c
-unfolding planOf editPlan addRefusal rowRefusal undoRefusal redoRefusal
+unfolding planOf changePlan addRefusal rowRefusal undoRefusal redoRefusal
 refusal-is b c = go c where
   flipped : (t : Bool) (y : ℕ) → cond t y 1 ≡ cond (not t) 1 y
   flipped true y = refl
@@ -108,53 +108,39 @@ pub record Planned (b : Board) (c : Call) (s : Plan) : Type 0 where
   pub tape : set (movedUp (b .journal) 0 (s .moves)) (s .place) (inverse (operation b c) (rowsOf b)) ≡ front (keptAfter b c ++ undoneAfter b c) (b .journal)
 
 module _ (b : Board) (lj : length (b .journal) ≡ 512) (s : soundOf b ≡ true) where
-  -- an edit, whose entry is given
-  edit-tape : (e : Entry) → (roomAfter (b .kept) + 1 ≡ length (pushed (keptOf b) e)) × (set (movedUp (b .journal) 0 (movesFor (b .kept) 0)) (roomAfter (b .kept)) e ≡ front (pushed (keptOf b) e ++ []) (b .journal))
-  edit-tape e = push-tape b 0 lj (sound-kept b s) (omega arith) e
+  -- an add, withdraw or remark, whose entry is given
+  planned-change : (c : Call) (q : ℕ) (remarks : Bool) (given : Entry) → keptAfter b c ≡ pushed (keptOf b) (inverse (operation b c) (rowsOf b)) → undoneAfter b c ≡ []
+      → _≡_ {A = Entry} (record { kind = given .kind; at = given .at; row = rowChosen remarks (given .row) (getD (b .rows) (given .at) blank) }) (operation b c)
+      → Planned b c (changePlan q (b .kept) remarks given)
+  unfolding changePlan entryChosen
+  planned-change c q remarks given k u d =
+      let t = push-tape b 0 lj (sound-kept b s) (omega arith) (inverse (operation b c) (rowsOf b)) in
+      record {
+        few-moves = moves-less (b .kept) 0 (omega arith);
+        inside = omega (arith, room-less (b .kept));
+        done = λ e h. ap (λ (x : Entry). record { kind = x .kind; at = x .at; row = rowChosen remarks (x .row) (getD (b .rows) (x .at) blank) }) h ∙ d;
+        kept-after = t .0 ∙ ap length (sym k);
+        undone-after = ap length (sym u);
+        tape = t .1 ∙ (λ i. front (sym k i ++ sym u i) (b .journal));
+      }
 
   planned-add : (r : Row) → Planned b (Add r) (planOf (Add r) (b .count) (b .kept) (b .undone))
-  unfolding planOf editPlan entryChosen rowChosen
+  unfolding planOf rowChosen
   planned-add r =
-      let t = edit-tape (inverse (operation b (Add r)) (rowsOf b)) in
-      let a = named-is (b .count) (sound-count b s) in
-      record {
-        few-moves = moved-less (b .kept) 0 (omega arith);
-        inside = omega (arith, room-less (b .kept));
-        done = λ e h. ap (λ (x : Entry). record { kind = x .kind; at = x .at; row = x .row }) h ∙ (λ i. record { kind = 1; at = a i; row = r });
-        kept-after = t .0;
-        undone-after = refl;
-        tape = t .1;
-      }
+      let a = place-named-is (b .count) (sound-count b s) in
+      planned-change (Add r) _ _ _ refl refl (λ i. record { kind = 1; at = a i; row = r })
 
   planned-withdraw : (k : ℕ) → k ≤ b .count → Planned b (Withdraw k) (planOf (Withdraw k) (b .count) (b .kept) (b .undone))
-  unfolding planOf editPlan entryChosen rowChosen
+  unfolding planOf rowChosen
   planned-withdraw k h =
-      let t = edit-tape (inverse (operation b (Withdraw k)) (rowsOf b)) in
-      let a = named-is (k - 1) (omega (arith, sound-count b s)) in
-      record {
-        few-moves = moved-less (b .kept) 0 (omega arith);
-        inside = omega (arith, room-less (b .kept));
-        done = λ e h. ap (λ (x : Entry). record { kind = x .kind; at = x .at; row = x .row }) h ∙ (λ i. record { kind = 0; at = a i; row = blank });
-        kept-after = t .0;
-        undone-after = refl;
-        tape = t .1;
-      }
+      let a = place-named-is (k - 1) (omega (arith, sound-count b s)) in
+      planned-change (Withdraw k) _ _ _ refl refl (λ i. record { kind = 0; at = a i; row = blank })
 
   planned-remark : (k : ℕ) (m : ℤ) → k ≤ b .count → Planned b (Remark k m) (planOf (Remark k m) (b .count) (b .kept) (b .undone))
-  unfolding planOf editPlan entryChosen rowChosen
+  unfolding planOf rowChosen
   planned-remark k m h =
-      let t = edit-tape (inverse (operation b (Remark k m)) (rowsOf b)) in
-      let a = named-is (k - 1) (omega (arith, sound-count b s)) in
-      record {
-        few-moves = moved-less (b .kept) 0 (omega arith);
-        inside = omega (arith, room-less (b .kept));
-        done = λ e h.
-            ap (λ (x : Entry). record { kind = x .kind; at = x .at; row = remarked (getD (b .rows) (x .at) blank) (x .row .minutes) }) h
-            ∙ (λ i. record { kind = 2; at = a i; row = remarked (getD (b .rows) (a i) blank) m });
-        kept-after = t .0;
-        undone-after = refl;
-        tape = t .1;
-      }
+      let a = place-named-is (k - 1) (omega (arith, sound-count b s)) in
+      planned-change (Remark k m) _ _ _ refl refl (λ i. record { kind = 2; at = a i; row = remarked (getD (b .rows) (a i) blank) m })
 
   -- an undo
   module _ (z : eqb (b .kept) 0 ≡ false) where
@@ -232,10 +218,10 @@ module _ (b : Board) (lj : length (b .journal) ≡ 512) (s : soundOf b ≡ true)
     planned-redo : Planned b Redo (planOf Redo (b .count) (b .kept) (b .undone))
     unfolding planOf entryChosen rowChosen
     planned-redo =
-        let f = few-is (b .undone) (sound-undone b s) in
+        let f = at-most-is (b .undone) (sound-undone b s) in
         let t = push-tape b (b .undone) lj (sound-kept b s) (sound-undone b s) (inverse (nextOf b) (rowsOf b)) in
         record {
-          few-moves = moved-less (b .kept) (atMost256 (b .undone)) (few-le (b .undone));
+          few-moves = moves-less (b .kept) (atMost256 (b .undone)) (at-most-le (b .undone));
           inside = omega (arith, room-less (b .kept));
           done = λ e h. h ∙ ap (λ (m : ℕ). getD (movedUp (b .journal) 0 (movesFor (b .kept) m)) (roomAfter (b .kept)) noEntry) f ∙ found;
           kept-after = t .0;
@@ -246,7 +232,7 @@ module _ (b : Board) (lj : length (b .journal) ≡ 512) (s : soundOf b ≡ true)
 -- every call that nothing refuses, by its own number
 planned-by : (b : Board) (c : Call) → length (b .journal) ≡ 512 → soundOf b ≡ true → planOf c (b .count) (b .kept) (b .undone) .refusal ≡ 0
     → Planned b c (planOf c (b .count) (b .kept) (b .undone))
-unfolding planOf editPlan
+unfolding planOf changePlan
 planned-by b (Add r) lj s e = planned-add b lj s r
 planned-by b (Withdraw k) lj s e = planned-withdraw b lj s k (row-there (b .count) k (cond-none (noRow (b .count) k) 4 0 (omega arith) e .0) .1)
 planned-by b (Remark k m) lj s e = planned-remark b lj s k m (row-there (b .count) k (cond-none (noRow (b .count) k) 4 0 (omega arith) e .0) .1)

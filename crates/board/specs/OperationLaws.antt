@@ -58,7 +58,7 @@ boardAfter b c = made b (carried (operation b c) (rowsOf b)) (keptAfter b c) (un
 
 -- ---- the number that refuses
 
-pub none-sound : (b : Board) (y : ℕ) → cond (not (soundOf b)) 1 y ≡ 0 → (soundOf b ≡ true) × (y ≡ 0)
+none-sound : (b : Board) (y : ℕ) → cond (not (soundOf b)) 1 y ≡ 0 → (soundOf b ≡ true) × (y ≡ 0)
 none-sound b y e = let x = cond-none (not (soundOf b)) 1 y (omega arith) e in (not-false (soundOf b) (x .0), x .1)
 
 add-none : (b : Board) (r : Row) → addRefusal b r ≡ 0 → (soundOf b ≡ true) × (eqb (r .numeral) 0 ≡ false) × (b .count < 1024)
@@ -106,7 +106,7 @@ edit-refused b Redo h = simp (ne-eqb (redoRefusal b) 0 h)
 -- ---- what the entry of an accepted call does
 
 module _ (b : Board) (l : length (b .rows) ≡ 1024) (s : soundOf b ≡ true) where
-  pub rows-count : length (rowsOf b) ≡ b .count
+  rows-count : length (rowsOf b) ≡ b .count
   rows-count = count-rows b l (sound-count b s)
 
   short : length (rowsOf b) ≤ 1024

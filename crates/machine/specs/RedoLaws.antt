@@ -13,7 +13,7 @@ use Rattle.machine.specs.Machine.{Machine, Answer, goesBack, goesForward
 use Rattle.machine.specs.Calls.{final}
 use Rattle.machine.specs.State.{stateOf}
 use Rattle.machine.specs.SimulationLaws.{final-state}
-use Rattle.machine.specs.UndoLaws.{Edits, edited, after-append}
+use Rattle.machine.specs.UndoLaws.{Changes, changing, after-append}
 
 -- ---- K and F together have at most 256 lists, so an undo or a redo drops none
 
@@ -28,14 +28,14 @@ within-on : (m : Machine) (F : List (List Row)) → length (m .earlier) + length
 within-on m [] h w = w
 within-on m (x ∷ F) h w = omega (arith, length-take 255 (m .earlier))
 
-within-edit : (m : Machine) (c : Call) → Edits c → Within m → Within (answer m c .machine)
-within-edit m c d w =
-    edited (λ (a : Answer). Within (a .machine)) m (λ n h. w) (λ rows. omega (arith, length-take 255 (m .earlier))) c d
+within-change : (m : Machine) (c : Call) → Changes c → Within m → Within (answer m c .machine)
+within-change m c d w =
+    changing (λ (a : Answer). Within (a .machine)) m (λ n h. w) (λ rows. omega (arith, length-take 255 (m .earlier))) c d
 
 within-step : (m : Machine) (c : Call) → Within m → Within (answer m c .machine)
-within-step m (Add r) w = within-edit m (Add r) tt w
-within-step m (Withdraw k) w = within-edit m (Withdraw k) tt w
-within-step m (Remark k minutes) w = within-edit m (Remark k minutes) tt w
+within-step m (Add r) w = within-change m (Add r) tt w
+within-step m (Withdraw k) w = within-change m (Withdraw k) tt w
+within-step m (Remark k minutes) w = within-change m (Remark k minutes) tt w
 within-step m Undo w = within-back m (m .earlier) w w
 within-step m Redo w = within-on m (m .later) w w
 

@@ -17,12 +17,12 @@ use Rattle.machine.specs.Calls.{final}
 use Rattle.machine.specs.SimulationLaws.{final-rows}
 
 -- an add, a withdrawal or a remark
-abbrev pub Edits : Call → Type 0
-Edits (Add r) = Unit {0}
-Edits (Withdraw k) = Unit {0}
-Edits (Remark k minutes) = Unit {0}
-Edits Undo = ⊥
-Edits Redo = ⊥
+abbrev pub Changes : Call → Type 0
+Changes (Add r) = Unit {0}
+Changes (Withdraw k) = Unit {0}
+Changes (Remark k minutes) = Unit {0}
+Changes Undo = ⊥
+Changes Redo = ⊥
 
 -- what holds of every refusal and of every change of the rows holds of the answer to such a call
 module _ (P : Answer → Type 0) (m : Machine) (refused : (n : ℕ) → 0 < n → P (gives n m)) (changed : (rows : List Row) → P (changes m rows)) where
@@ -30,32 +30,32 @@ module _ (P : Answer → Type 0) (m : Machine) (refused : (n : ℕ) → 0 < n �
   either true n a h p = refused n h
   either false n a h p = p
 
-  pub edited : (c : Call) → Edits c → P (answer m c)
-  edited (Add r) d =
+  pub changing : (c : Call) → Changes c → P (answer m c)
+  changing (Add r) d =
       let rows : List Row = m .rows ++ (r ∷ []) in
       either (eqb (r .numeral) 0) 2 (cond (leb 1024 (length (m .rows))) (gives 3 m) (changes m rows)) (omega arith)
       (either (leb 1024 (length (m .rows))) 3 (changes m rows) (omega arith) (changed rows))
-  edited (Withdraw k) d =
+  changing (Withdraw k) d =
       let rows : List Row = without (m .rows) (k - 1) in
       either (noRow (length (m .rows)) k) 4 (changes m rows) (omega arith) (changed rows)
-  edited (Remark k minutes) d =
+  changing (Remark k minutes) d =
       let rows : List Row = set (m .rows) (k - 1) (remarked (getD (m .rows) (k - 1) blank) minutes) in
       either (noRow (length (m .rows)) k) 4 (changes m rows) (omega arith) (changed rows)
-  edited Undo d = absurd d
-  edited Redo d = absurd d
+  changing Undo d = absurd d
+  changing Redo d = absurd d
 
 -- an answer that refuses, or one after which an undo gives m's rows back
 abbrev Back : Machine → Answer → Type 0
 Back m a = a .refusal ≡ 0 → answer (a .machine) Undo .machine .rows ≡ m .rows
 
-back : (m : Machine) (c : Call) → Edits c → Back m (answer m c)
-back m c d = edited (Back m) m (λ n h e. absurd (omega (arith, h, e))) (λ rows e. refl) c d
+back : (m : Machine) (c : Call) → Changes c → Back m (answer m c)
+back m c d = changing (Back m) m (λ n h e. absurd (omega (arith, h, e))) (λ rows e. refl) c d
 
 pub after-append : (m : Machine) (xs ys : List Call) → after m (xs ++ ys) ≡ after (after m xs) ys
 after-append m [] ys = refl
 after-append m (x ∷ xs) ys = after-append (answer m x .machine) xs ys
 
-pub undo-returns : (cs : List Call) (c : Call) → Edits c → answer (after start cs) c .refusal ≡ 0
+pub undo-returns : (cs : List Call) (c : Call) → Changes c → answer (after start cs) c .refusal ≡ 0
     → rowsOf (final emptyOf (cs ++ (c ∷ Undo ∷ []))) ≡ rowsOf (final emptyOf cs)
 undo-returns cs c d e =
     final-rows (cs ++ (c ∷ Undo ∷ []))

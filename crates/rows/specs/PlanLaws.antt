@@ -1,4 +1,4 @@
--- How large the numbers of a step are. Assumes nothing.
+-- How large the numbers of a plan are. Assumes nothing.
 use mathlib.Core.Path.{_≡_, refl}
 use Prim.Native.Nat.{ℕ, _≤_, _<_}
 use native.Mathlib.Omega.{arith}
@@ -7,9 +7,9 @@ use lib.Dec.{leb, ltb}
 use borrow.Author.Tests.{leb-true, ltb-true}
 use Rattle.rows.specs.PlanLayer.{atMost256, roomAfter}
 
-pub few-le : (n : ℕ) → atMost256 n ≤ 256
+pub at-most-le : (n : ℕ) → atMost256 n ≤ 256
 unfolding atMost256
-few-le n = go (leb n 256) refl where
+at-most-le n = go (leb n 256) refl where
   go : (t : Bool) → leb n 256 ≡ t → cond t n 256 ≤ 256
   go true e = leb-true n 256 e
   go false e = omega arith

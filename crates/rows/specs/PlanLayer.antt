@@ -1,4 +1,4 @@
--- The tests that the code makes of a board, and what it reads of a call: what contracts of inner functions cite. Assumes nothing.
+-- The tests that the code makes of a board by numbers, and the plan of a call: what contracts of inner functions cite. Assumes nothing.
 use Prim.Native.Nat.{ℕ, _+_, _-_}
 use mathlib.Core.Bool.{Bool, true, false, cond, _&&_, _||_}
 use lib.Dec.{eqb, leb, ltb}
@@ -48,9 +48,9 @@ entryChosen taped stored given = cond taped stored given
 unfoldable pub rowChosen : Bool → Row → Row → Row
 rowChosen remarks row old = cond remarks (remarked old (row .minutes)) row
 
--- an edit: it keeps a step and forgets those undone
-unfoldable pub editPlan : ℕ → ℕ → Bool → Entry → Plan
-editPlan refusal kept remarks entry = record {
+-- an add, withdraw or remark: it keeps a step and forgets those undone
+unfoldable pub changePlan : ℕ → ℕ → Bool → Entry → Plan
+changePlan refusal kept remarks entry = record {
   refusal = refusal;
   moves = movesFor kept 0;
   place = roomAfter kept;
@@ -64,10 +64,10 @@ editPlan refusal kept remarks entry = record {
 -- what a call does on a board of so many rows, kept and undone steps
 unfoldable pub planOf : Call → ℕ → ℕ → ℕ → Plan
 planOf (Add r) count kept undone =
-    editPlan (cond (eqb (r .numeral) 0) 2 (cond (leb 1024 count) 3 0)) kept false (record { kind = 1; at = placeNamed count; row = r })
-planOf (Withdraw k) count kept undone = editPlan (cond (noRow count k) 4 0) kept false (record { kind = 0; at = placeNamed (k - 1); row = blank })
+    changePlan (cond (eqb (r .numeral) 0) 2 (cond (leb 1024 count) 3 0)) kept false (record { kind = 1; at = placeNamed count; row = r })
+planOf (Withdraw k) count kept undone = changePlan (cond (noRow count k) 4 0) kept false (record { kind = 0; at = placeNamed (k - 1); row = blank })
 planOf (Remark k minutes) count kept undone =
-    editPlan (cond (noRow count k) 4 0) kept true (record { kind = 2; at = placeNamed (k - 1); row = remarked blank minutes })
+    changePlan (cond (noRow count k) 4 0) kept true (record { kind = 2; at = placeNamed (k - 1); row = remarked blank minutes })
 planOf Undo count kept undone = record {
   refusal = cond (eqb kept 0) 5 0;
   moves = 0;

@@ -5,7 +5,7 @@ ghost use Prim.Native.Nat.{_+_, _-_, _≤_};
 ghost use lib.Dec.{eqb, leb, ltb};
 ghost use Rattle.rows.specs.declared.Call.the-variants.{Add, Withdraw, Remark, Undo, Redo};
 ghost use Rattle.rows.specs.Journal.{blank, noRow, remarked};
-ghost use Rattle.rows.specs.PlanLayer.{canDo, noneOr, soundBy, atMost256, roomAfter, movesFor, placeNamed, entryChosen, rowChosen, editPlan, planOf, judgedPlan};
+ghost use Rattle.rows.specs.PlanLayer.{canDo, noneOr, soundBy, atMost256, roomAfter, movesFor, placeNamed, entryChosen, rowChosen, changePlan, planOf, judgedPlan};
 
 // A row of the parts list: parent 0 is none, minutes below 0 are a deduction.
 #[repr(C)]
@@ -262,9 +262,9 @@ fn entry_of(kind: u32, at: u32, row: Row) -> Entry
     }
 }
 
-// An edit: it keeps a step and forgets those undone.
-fn edit_plan(refusal: u32, kept: usize, remarks: bool, entry: Entry) -> Plan
-    ensures { λ r. ⌜ r ≡ editPlan refusal kept remarks entry ⌝ }
+// An add, withdraw or remark: it keeps a step and forgets those undone.
+fn change_plan(refusal: u32, kept: usize, remarks: bool, entry: Entry) -> Plan
+    ensures { λ r. ⌜ r ≡ changePlan refusal kept remarks entry ⌝ }
 {
     let place = room_after(kept);
     Plan {
@@ -283,14 +283,14 @@ fn add_plan(count: usize, kept: usize, row: Row) -> Plan
     ensures { λ r. ⌜ r ≡ planOf (Add row) count kept 0 ⌝ }
 {
     let entry = entry_of(1, place_named(count), row);
-    edit_plan(add_refusal(count, row), kept, false, entry)
+    change_plan(add_refusal(count, row), kept, false, entry)
 }
 
 fn withdraw_plan(count: usize, kept: usize, k: usize) -> Plan
     ensures { λ r. ⌜ r ≡ planOf (Withdraw k) count kept 0 ⌝ }
 {
     let entry = entry_of(0, place_named(one_less(k)), blank_row());
-    edit_plan(row_refusal(count, k), kept, false, entry)
+    change_plan(row_refusal(count, k), kept, false, entry)
 }
 
 fn remark_plan(count: usize, kept: usize, k: usize, minutes: i32) -> Plan
@@ -301,7 +301,7 @@ fn remark_plan(count: usize, kept: usize, k: usize, minutes: i32) -> Plan
         place_named(one_less(k)),
         with_minutes(blank_row(), minutes),
     );
-    edit_plan(row_refusal(count, k), kept, true, entry)
+    change_plan(row_refusal(count, k), kept, true, entry)
 }
 
 fn undo_plan(kept: usize, undone: usize) -> Plan

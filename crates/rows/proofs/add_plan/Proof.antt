@@ -13,8 +13,8 @@ entry-of-requires c κs = search needs
 add-refusal-requires : tie.Need-add-refusal-requires
 add-refusal-requires c κs = search needs
 
-edit-plan-requires : tie.Need-edit-plan-requires
-edit-plan-requires c κs = search needs
+change-plan-requires : tie.Need-change-plan-requires
+change-plan-requires c κs = search needs
 
 returns : tie.Need-returns
 unfolding planOf
@@ -27,5 +27,5 @@ add-plan-spec =
     place-named-requires
     entry-of-requires
     add-refusal-requires
-    edit-plan-requires
+    change-plan-requires
     returns)

@@ -8,7 +8,7 @@ use mir.Val.{SFits}
 use borrow.Author.Needs.{needs}
 use Rattle.rows.specs.declared.Row.{Row}
 use Rattle.rows.specs.Journal.{blank, remarked}
-use Rattle.rows.specs.PlanLayer.{placeNamed, editPlan, planOf}
+use Rattle.rows.specs.PlanLayer.{placeNamed, changePlan, planOf}
 use Rattle.rows.proofs.remark_plan.Statement.{statement}
 use Rattle.rows.proofs.remark_plan.Tie as tie
 
@@ -30,8 +30,8 @@ entry-of-requires c κs = search needs
 row-refusal-requires : tie.Need-row-refusal-requires
 row-refusal-requires c κs = search needs
 
-edit-plan-requires : tie.Need-edit-plan-requires
-edit-plan-requires c κs = search needs
+change-plan-requires : tie.Need-change-plan-requires
+change-plan-requires c κs = search needs
 
 returns : tie.Need-returns
 unfolding planOf
@@ -42,7 +42,7 @@ returns c =
     let at : n .before .before .place-named .result ≡ placeNamed (s .args .k - 1) = n .before .before .place-named .ensures ∙ ap placeNamed (n .before .before .before .one-less .ensures) in
     let row : n .with-minutes .result ≡ remarked blank (s .args .minutes) = simp (toZ-ofZ h) at (n .with-minutes .ensures) ∙ ap (λ (r : Row). remarked r (s .args .minutes)) (n .before .blank-row .ensures) in
     let entry : c .before .before .entry-of .result ≡ record { kind = 2; at = placeNamed (s .args .k - 1); row = remarked blank (s .args .minutes) } = c .before .before .entry-of .ensures ∙ (λ i. record { kind = 2; at = at i; row = row i }) in
-    c .edit-plan .ensures ∙ (λ i. editPlan (c .before .row-refusal .ensures i) (s .args .kept) true (entry i))
+    c .change-plan .ensures ∙ (λ i. changePlan (c .before .row-refusal .ensures i) (s .args .kept) true (entry i))
 
 pub remark-plan-spec : {M : Type 1} → statement M
 remark-plan-spec =
@@ -54,5 +54,5 @@ remark-plan-spec =
     with-minutes-requires
     entry-of-requires
     row-refusal-requires
-    edit-plan-requires
+    change-plan-requires
     returns)

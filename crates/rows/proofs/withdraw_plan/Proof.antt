@@ -19,8 +19,8 @@ entry-of-requires c κs = search needs
 row-refusal-requires : tie.Need-row-refusal-requires
 row-refusal-requires c κs = search needs
 
-edit-plan-requires : tie.Need-edit-plan-requires
-edit-plan-requires c κs = search needs
+change-plan-requires : tie.Need-change-plan-requires
+change-plan-requires c κs = search needs
 
 returns : tie.Need-returns
 unfolding planOf
@@ -35,5 +35,5 @@ withdraw-plan-spec =
     blank-row-requires
     entry-of-requires
     row-refusal-requires
-    edit-plan-requires
+    change-plan-requires
     returns)

@@ -26,7 +26,7 @@ use Rattle.board.specs.Laws.{sound-count}
 use Rattle.board.specs.OperationLaws.{refusalBy, operation, boardAfter, edit-refused, Carries, edit-carries}
 use Rattle.board.proofs.Sound.{turn, sound-test}
 use Rattle.board.proofs.Entries.{in-place, in-room, in-count, in-rows, at-place, out-count, out-rows, set-count, set-rows, turned, place-below}
-use Rattle.rows.specs.PlanLaws.{few-le}
+use Rattle.rows.specs.PlanLaws.{at-most-le}
 use Rattle.board.proofs.Steps.{refusal-is, Planned, planned, shifted, finished}
 use Rattle.board.proofs.Board.edit.Statement.{statement}
 use Rattle.board.proofs.Board.edit.Tie as tie
@@ -105,7 +105,7 @@ long c = (search (needs, length-mapped), search (needs, length-mapped))
 
 -- the places of the newest entries
 front-le : (c : tie.After-one-less Inv-loop μ-loop Inv-loop2 μ-loop2 Inv-loop3 μ-loop3 Inv-loop4 μ-loop4) → c .before .at-most-256 .result ≤ 256
-front-le c = rw (c .before .at-most-256 .ensures) (few-le (c .before .before .before .before .before .args .self .kept))
+front-le c = rw (c .before .at-most-256 .ensures) (at-most-le (c .before .before .before .before .before .args .self .kept))
 
 -- what the call does, by the board's own soundness
 judged-is : (c : Refused) → step c ≡ judgedPlan (soundOf (self c)) (planOf (call c) (self c .count) (self c .kept) (self c .undone))
