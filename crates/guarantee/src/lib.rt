@@ -10,6 +10,20 @@ use request::Built;
 use request::Start;
 use sums::Summed;
 
+// What is to be built: the option code, the depth and the start rule.
+pub struct BuildOptions {
+    pub code: u32,
+    pub depth: Depth,
+    pub start: Start,
+}
+
+// What is asked of the index: a rank, and the limits of the distance of its descendants.
+pub struct Question {
+    pub rank: u32,
+    pub lower: i32,
+    pub upper: i32,
+}
+
 // What `replay_all` answers: the replay's own refusal number (101 to 103), or 0, the number of calls, the numbers of the board's kept steps, undone steps and rows after them, and the answers of the build, the descendants and the subtree sum.
 #[repr(C)]
 pub struct ReplayedAll {
@@ -57,23 +71,19 @@ fn not_replayed(replayed: u32) -> ReplayedAll
 pub fn replay_all(
     words: &[u32],
     refusals: &mut [u32],
-    code: u32,
-    depth: Depth,
-    start: Start,
+    options: BuildOptions,
     list: &[u32],
     index: &mut [u32],
     totals: &mut [i64],
-    rank: u32,
-    lower: i32,
-    upper: i32,
+    question: Question,
     out: &mut [u32],
 ) -> ReplayedAll
-    ensures { λ r. ⌜ r ≡ replayAllAnswer (replayedOf (now (words .entry)) (length (now (refusals .entry)))) code depth (startRule start (now (list .entry))) (now (index .entry)) (now (totals .entry)) rank lower upper (now (out .entry)) ⌝ }
+    ensures { λ r. ⌜ r ≡ replayAllAnswer (replayedOf (now (words .entry)) (length (now (refusals .entry)))) (options .code) (options .depth) (startRule (options .start) (now (list .entry))) (now (index .entry)) (now (totals .entry)) (question .rank) (question .lower) (question .upper) (now (out .entry)) ⌝ }
     ensures { λ _. ⌜ now (refusals .exit) ≡ refusalsOf (now (words .entry)) (now (refusals .entry)) ⌝ }
-    ensures { λ _. ⌜ now (index .exit) ≡ indexLeft (replayedOf (now (words .entry)) (length (now (refusals .entry)))) code depth (startRule start (now (list .entry))) (now (index .entry)) (now (totals .entry)) ⌝ }
-    ensures { λ _. ⌜ now (totals .exit) ≡ totalsLeft (replayedOf (now (words .entry)) (length (now (refusals .entry)))) code depth (startRule start (now (list .entry))) (now (index .entry)) (now (totals .entry)) ⌝ }
-    ensures { λ _. ⌜ now (out .exit) ≡ outLeft (replayedOf (now (words .entry)) (length (now (refusals .entry)))) code depth (startRule start (now (list .entry))) (now (index .entry)) (now (totals .entry)) rank lower upper (now (out .entry)) ⌝ }
-    ensures { λ r. ⌜ (r .replayed ≡ 0 → Demand3 (decoded (now (words .entry))) (now (refusals .entry)) code depth start (now (list .entry)) (now (index .entry)) (now (totals .entry)) rank lower upper (now (out .entry)) r (now (refusals .exit)) (now (index .exit)) (now (totals .exit)) (now (out .exit))) ⌝ }
+    ensures { λ _. ⌜ now (index .exit) ≡ indexLeft (replayedOf (now (words .entry)) (length (now (refusals .entry)))) (options .code) (options .depth) (startRule (options .start) (now (list .entry))) (now (index .entry)) (now (totals .entry)) ⌝ }
+    ensures { λ _. ⌜ now (totals .exit) ≡ totalsLeft (replayedOf (now (words .entry)) (length (now (refusals .entry)))) (options .code) (options .depth) (startRule (options .start) (now (list .entry))) (now (index .entry)) (now (totals .entry)) ⌝ }
+    ensures { λ _. ⌜ now (out .exit) ≡ outLeft (replayedOf (now (words .entry)) (length (now (refusals .entry)))) (options .code) (options .depth) (startRule (options .start) (now (list .entry))) (now (index .entry)) (now (totals .entry)) (question .rank) (question .lower) (question .upper) (now (out .entry)) ⌝ }
+    ensures { λ r. ⌜ (r .replayed ≡ 0 → Demand3 (decoded (now (words .entry))) (now (refusals .entry)) (options .code) (options .depth) (options .start) (now (list .entry)) (now (index .entry)) (now (totals .entry)) (question .rank) (question .lower) (question .upper) (now (out .entry)) r (now (refusals .exit)) (now (index .exit)) (now (totals .exit)) (now (out .exit))) ⌝ }
 {
     let done = history::replay(words, refusals);
     let replayed = done.refusal;
@@ -85,7 +95,13 @@ pub fn replay_all(
     let kept = board.kept;
     let undone = board.undone;
     let count = board.count;
+    let code = options.code;
+    let depth = options.depth;
+    let start = options.start;
     let built = build::build(board, code, depth, start, list, index, totals);
+    let rank = question.rank;
+    let lower = question.lower;
+    let upper = question.upper;
     let listed = navigate::descendants(index, rank, lower, upper, out);
     let summed = sums::subtree_sum(index, totals, rank);
     ReplayedAll {
