@@ -15,6 +15,13 @@ pub column-length : (k : ℕ) (t : List ℕ) → length (column k t) ≡ length 
 unfolding column
 column-length k t = by-place-length (λ p. getD t (8 * p + k) 0) 0 (length t / 8)
 
+-- all columns are as long as the table has rows
+pub columns-long : (j k : ℕ) (t : List ℕ) → length (column j t) ≡ length (column k t)
+columns-long j k t = column-length j t ∙ sym (column-length k t)
+
+pub columns-kept-long : (j k : ℕ) (t t′ : List ℕ) → length t′ ≡ length t → length (column j t′) ≡ length (column k t)
+columns-kept-long j k t t′ e = omega (arith, column-length j t′, column-length k t, e)
+
 pub column-at : (k : ℕ) (t : List ℕ) (p : ℕ) → p < length t / 8 → getD (column k t) p 0 ≡ getD t (8 * p + k) 0
 unfolding column
 column-at k t p h = by-place (λ p. getD t (8 * p + k) 0) 0 (length t / 8) p 0 h ∙ ap (λ (q : ℕ). getD t (8 * q + k) 0) (zero-add p)

@@ -1,0 +1,2 @@
+pub mod OrderingLayer
+pub mod SiblingOrderLaws
