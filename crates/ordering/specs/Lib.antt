@@ -1,2 +1,4 @@
 pub mod OrderingLayer
 pub mod SiblingOrderLaws
+pub mod RankLaws
+pub mod OrderedLaws
