@@ -12,7 +12,8 @@ use Rattle.rows.specs.declared.Row.{Row}
 use Rattle.sorting.specs.KeyLayer.{PositionOrdered}
 use Rattle.table.specs.TableLayer.{rowColumn}
 use Rattle.table.specs.TableLaws.{column-length}
-use Rattle.links.specs.PreparedLayer.{Prepared, StartFlags, WithNumerals, RowsRead}
+use Rattle.ordering.specs.OrderingLayer.{RowsRead}
+use Rattle.links.specs.PreparedLayer.{Prepared, StartFlags, WithNumerals}
 use Rattle.enumerate.specs.EnumerateLayer.{ClearWorkspace}
 use Rattle.assemble.specs.AssembledLayer.{PreparedRows}
 use Rattle.assemble.specs.AssembledLaws.{marks-none}

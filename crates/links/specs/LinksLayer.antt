@@ -2,15 +2,12 @@
 use mathlib.Core.Bool.{Bool, true, false, cond}
 use mathlib.Core.List.{List, [], _∷_, map}
 use mathlib.Core.Path.{_≡_}
-use Prim.Native.Nat.{ℕ, suc, _+_, _-_, _%_, _<_, _≤_}
+use Prim.Native.Nat.{ℕ, suc, _+_, _-_, _/_, _%_, _<_, _≤_}
 use lib.Dec.{eqb, ltb}
 use lib.ListN.{length, getD, drop}
 use Rattle.lists.specs.Choice.{bit}
 use Rattle.lists.specs.Lists.{filter, numbers}
-use Rattle.rows.specs.declared.Row.{Row}
 use Rattle.paths.specs.Forest.{memb}
-use Rattle.paths.specs.Rows.{num, par}
-use Rattle.paths.specs.Nodes.{sorted}
 
 -- ---- keys: a number and its position in one number
 
@@ -29,19 +26,20 @@ pub record KeyBelow (K : List ℕ) (r base : ℕ) (b : Bool) : Type 0 where
   pub yes-is : b ≡ true → (r < length K) × (getD K r 0 < base)
   pub no-is : b ≡ false → r < length K → base ≤ getD K r 0
 
+-- the keys from `from` to before r are below base, and the one at r isn't
+pub record Skipped (K : List ℕ) (from base r : ℕ) : Type 0 where
+  pub later : from ≤ r
+  pub within : r ≤ length K
+  pub less : (k : ℕ) → from ≤ k → k < r → getD K k 0 < base
+  pub rest : r < length K → base ≤ getD K r 0
+
 -- the position of the key at r, where its number is that of base; else n
 unfoldable pub foundAt : List ℕ → ℕ → ℕ → ℕ → ℕ
 foundAt K r base n = cond (ltb r (length K)) (cond (ltb (getD K r 0) (base + 1024)) (getD K r 0 - base) n) n
 
--- ---- rows in sibling order
-
--- the field O of row number x
-abbrev pub fieldOf : List ℕ → ℕ → ℕ
-fieldOf O x = getD O (x - 1) 0
-
--- each is the number of one of n rows
-abbrev pub RowNumbers : List ℕ → ℕ → Type 0
-RowNumbers rows n = (k : ℕ) → k < length rows → (1 ≤ getD rows k 0) × (getD rows k 0 ≤ n)
+-- the first key with x's number, where `first` is the first with the number of the key before x
+unfoldable pub firstKey : ℕ → ℕ → ℕ
+firstKey first x = cond (eqb (first / 1024) (x / 1024)) first x
 
 -- ---- links between positions, counted from 0 in sibling order
 
@@ -74,12 +72,3 @@ pub data NextChain (next : List ℕ) (m : ℕ) : ℕ → List ℕ → Type 0 whe
 -- the flag at the first position of each number of F tells whether the number is in the list
 unfoldable pub ListedFlagged : (F list flags : List ℕ) → Type 0
 ListedFlagged F list flags = (p : ℕ) → p < length F → getD flags (firstFrom F (getD F p 0) 0) 0 ≡ bit (memb (getD F p 0) list)
-
--- ---- what the preparation of a board's rows R leaves
-
--- the rows in sibling order, with the parent and the numeral at each position
-pub record Ordered (R : List Row) (rows parent numeral : List ℕ) : Type 0 where
-  pub few : length R ≤ 1024
-  pub rows-are : rows ≡ sorted R
-  pub parents-are : parent ≡ map (par R) (sorted R)
-  pub numerals-are : numeral ≡ map (num R) (sorted R)

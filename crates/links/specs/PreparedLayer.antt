@@ -3,18 +3,19 @@ use mathlib.Core.Path.{_≡_}
 use mathlib.Core.Logic.{_≢_}
 use mathlib.Core.Bool.{Bool}
 use mathlib.Core.List.{List, map}
-use Prim.Native.Nat.{ℕ, _/_, _%_, _<_, _≤_}
+use Prim.Native.Nat.{ℕ, _%_, _<_, _≤_}
 use lib.Dec.{eqb}
-use lib.ListN.{length, getD, set}
+use lib.ListN.{length, getD}
 use Rattle.lists.specs.Choice.{bit}
 use Rattle.rows.specs.declared.Row.{Row}
 use Rattle.paths.specs.Rows.{row, num, RowOf}
 use Rattle.paths.specs.Forest.{memb}
 use Rattle.request.specs.declared.Start.{Start}
 use Rattle.request.specs.declared.Start.the-variants.{ParentZero, Listed}
-use Rattle.sorting.specs.KeyLayer.{packed, keysOf}
+use Rattle.sorting.specs.KeyLayer.{keysOf}
 use Rattle.table.specs.TableLayer.{column, rowColumn, parentColumn, numeralColumn, childColumn, nextColumn, classColumn, parentPositionColumn, flagColumn}
-use Rattle.links.specs.LinksLayer.{Ordered, firsts, nexts}
+use Rattle.ordering.specs.OrderingLayer.{Ordered}
+use Rattle.links.specs.LinksLayer.{firsts, nexts}
 
 -- the rows R in sibling order, and for each the positions of its first child and next sibling, its class of equal numerals and the position of its parent
 pub record Prepared (R : List Row) (t : List ℕ) : Type 0 where
@@ -41,20 +42,6 @@ pub record AnyPrepared (t : List ℕ) : Type 0 where
   pub numbered : WithNumerals R
 
 -- ---- what the steps of the preparation leave
-
--- the rows R are read: the keys of their orders, and in each of the fields a row's parent above its numeral
-pub record RowsRead (R : List Row) (keys fields : List ℕ) : Type 0 where
-  pub few : length R ≤ 1024
-  pub keys-are : keys ≡ packed 0 (map (λ (r : Row). r .order) R)
-  pub parents-are : map (λ x. x / 4294967296) fields ≡ map (λ (r : Row). r .parent) R
-  pub numerals-are : map (λ x. x % 4294967296) fields ≡ map (λ (r : Row). r .numeral) R
-
--- a row's number, parent and numeral are stored at position p
-pub record RowStored (p number parent numeral : ℕ) (t t′ : List ℕ) : Type 0 where
-  pub long : length t′ ≡ length t
-  pub row-is : rowColumn t′ ≡ set (rowColumn t) p number
-  pub parent-is : parentColumn t′ ≡ set (parentColumn t) p parent
-  pub numeral-is : numeralColumn t′ ≡ set (numeralColumn t) p numeral
 
 -- no column but k differs
 pub record OthersKept (k : ℕ) (t t′ : List ℕ) : Type 0 where
