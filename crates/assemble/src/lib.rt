@@ -96,22 +96,17 @@ fn build_few(
 {
     let mut table = [0u32; 512];
     let mut minutes = [0i32; 64];
-    let mut parent_keys = [0u64; 64];
-    let mut numeral_keys = [0u64; 64];
+    let mut keys = [0u64; 64];
+    let mut fields = [0u64; 64];
     let mut scratch = [0u64; 64];
     let m = 8 * n;
-    links::read_rows(
-        rows,
-        &mut minutes[..n],
-        &mut parent_keys[..n],
-        &mut numeral_keys[..n],
-    );
+    ordering::read_rows(rows, &mut minutes[..n], &mut keys[..n], &mut fields[..n]);
     links::prepare(
         start,
         list,
         &mut table[..m],
-        &mut parent_keys[..n],
-        &mut numeral_keys[..n],
+        &mut keys[..n],
+        &mut fields[..n],
         &mut scratch[..n],
     );
     let mut reached = [0u32; 64];
@@ -144,22 +139,17 @@ fn build_many(
 {
     let mut table = [0u32; 8192];
     let mut minutes = [0i32; 1024];
-    let mut parent_keys = [0u64; 1024];
-    let mut numeral_keys = [0u64; 1024];
+    let mut keys = [0u64; 1024];
+    let mut fields = [0u64; 1024];
     let mut scratch = [0u64; 1024];
     let m = 8 * n;
-    links::read_rows(
-        rows,
-        &mut minutes[..n],
-        &mut parent_keys[..n],
-        &mut numeral_keys[..n],
-    );
+    ordering::read_rows(rows, &mut minutes[..n], &mut keys[..n], &mut fields[..n]);
     links::prepare(
         start,
         list,
         &mut table[..m],
-        &mut parent_keys[..n],
-        &mut numeral_keys[..n],
+        &mut keys[..n],
+        &mut fields[..n],
         &mut scratch[..n],
     );
     let mut reached = [0u32; 1024];
