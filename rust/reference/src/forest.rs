@@ -52,11 +52,11 @@ pub struct Node {
 #[derive(Clone, Debug, PartialEq, Eq)]
 pub struct Forest {
     pub nodes: Vec<Node>,
-    /// Start rows, by row number.
+    /// Start rows, in sibling order.
     pub start_rows: Vec<usize>,
     /// U: rows that end no regular path, by row number.
     pub unreached: Vec<usize>,
-    /// Rows of U whose parent is 0 or no row's numeral, by row number.
+    /// Rows of U whose parent is 0 or no row's numeral, in sibling order.
     pub top_orphans: Vec<usize>,
 }
 
@@ -114,13 +114,14 @@ impl Body {
     }
 }
 
-/// Sibling order of two row numbers: smaller order first, then smaller row number.
+/// Sibling order of two row numbers: order, then numeral, then row number, the smaller first.
 pub fn sibling_order(rows: &[Row], a: usize, b: usize) -> Ordering {
-    rows[a - 1].order.cmp(&rows[b - 1].order).then(a.cmp(&b))
+    let (one, other) = (rows[a - 1], rows[b - 1]);
+    one.order.cmp(&other.order).then(one.numeral.cmp(&other.numeral)).then(a.cmp(&b))
 }
 
 /// Order of nodes: regular before orphan; a path before its extensions; else
-/// the first differing row decides.
+/// the first differing row decides by sibling order.
 pub fn node_order(rows: &[Row], a: &Node, b: &Node) -> Ordering {
     if a.orphan != b.orphan {
         return a.orphan.cmp(&b.orphan);
@@ -206,7 +207,8 @@ pub fn forest(
         Start::ParentZero => rows[k - 1].parent == 0,
         Start::Numerals(list) => list.contains(&rows[k - 1].numeral),
     };
-    let start_rows: Vec<usize> = all.iter().copied().filter(|&k| is_start(k)).collect();
+    let mut start_rows: Vec<usize> = all.iter().copied().filter(|&k| is_start(k)).collect();
+    start_rows.sort_by(|&a, &b| sibling_order(rows, a, b));
 
     let mut regular = Lister {
         rows,
@@ -234,7 +236,8 @@ pub fn forest(
         let parent = rows[k - 1].parent;
         parent == 0 || rows.iter().all(|row| row.numeral != parent)
     };
-    let top_orphans: Vec<usize> = unreached.iter().copied().filter(|&k| is_top(k)).collect();
+    let mut top_orphans: Vec<usize> = unreached.iter().copied().filter(|&k| is_top(k)).collect();
+    top_orphans.sort_by(|&a, &b| sibling_order(rows, a, b));
 
     if orphan == ADOPT && !top_orphans.is_empty() && start_rows.is_empty() {
         return Err(8);
@@ -243,9 +246,8 @@ pub fn forest(
     if orphan == ADOPT || orphan == ROOT {
         let mut front: Vec<usize> = Vec::new();
         if orphan == ADOPT {
-            // Without a start row there is no top orphan to adopt.
-            let last = start_rows.iter().copied().max_by(|&a, &b| sibling_order(rows, a, b));
-            front.extend(last);
+            // The last start row in sibling order; without one there is no top orphan to adopt.
+            front.extend(start_rows.last());
         }
         let mut lister = Lister {
             rows,

@@ -147,21 +147,6 @@ fn children_of_a_reached_numeral_are_never_orphans() {
 }
 
 #[test]
-fn adopting_row_is_last_by_order_then_row_number() {
-    let rows = [row(0, 1, 9), row(0, 2, 9), row(0, 3, 8), row(50, 4, 0)];
-    let image = build_all(&rows, 2, None, Start::ParentZero);
-    assert_eq!(
-        shape(&image),
-        [
-            (3, 0, 1, false, false),
-            (1, 0, 1, false, false),
-            (2, 0, 1, false, false),
-            (4, 3, 2, false, true),
-        ]
-    );
-}
-
-#[test]
 fn start_lists() {
     let rows = [row(0, 1, 1), row(1, 2, 1), row(2, 3, 1), row(1, 2, 0)];
     // Empty: no path.
@@ -330,12 +315,395 @@ fn longest_chain() {
     assert!(last.closing && last.level == 1_025 && last.row == 1);
 }
 
+// Equal places: order, then numeral, then row number.
+
+/// The row numbers of each node's path, in rank order: its parent's, then its own.
+fn paths(image: &Image) -> Vec<Vec<u32>> {
+    let mut paths = vec![vec![]];
+    for rank in 1..=image.built.nodes as usize {
+        let body = Body::read(&image.index, rank);
+        let mut path = paths[body.parent as usize].clone();
+        path.push(body.row);
+        paths.push(path);
+    }
+    paths.remove(0);
+    paths
+}
+
+/// The closing bit of each node.
+fn closings(image: &Image) -> Vec<bool> {
+    shape(image).iter().map(|node| node.3).collect()
+}
+
+/// The orphan bit of each node.
+fn orphans(image: &Image) -> Vec<bool> {
+    shape(image).iter().map(|node| node.4).collect()
+}
+
+/// The forest with no limit on its nodes.
+fn forest_of(rows: &[Row], orphan: u32, start: Start) -> Forest {
+    forest::forest(rows, orphan, None, start, &|_| true).unwrap()
+}
+
 #[test]
-fn order_extremes_and_ties() {
-    let rows = [row(0, 4, u32::MAX), row(0, 3, 0), row(0, 2, u32::MAX), row(0, 1, 0)];
+fn siblings_of_equal_order_by_numeral() {
+    // The order comes first: row 5 has the largest numeral and stands ahead. Of order 5 the larger
+    // numeral was entered first and comes last.
+    let rows = [row(0, 10, 1), row(10, 30, 5), row(10, 20, 5), row(10, 25, 5), row(10, 40, 4)];
     let image = build_all(&rows, 0, None, Start::ParentZero);
-    let order: Vec<u32> = shape(&image).iter().map(|node| node.0).collect();
-    assert_eq!(order, [2, 4, 1, 3]);
+    assert_eq!(paths(&image), [&[1][..], &[1, 5], &[1, 3], &[1, 4], &[1, 2]]);
+}
+
+#[test]
+fn siblings_of_equal_order_and_numeral_by_row_number() {
+    // All fields equal.
+    let rows = [row(0, 10, 1), row(10, 20, 5), row(10, 20, 5), row(10, 20, 5)];
+    let image = build_all(&rows, 0, None, Start::ParentZero);
+    assert_eq!(paths(&image), [&[1][..], &[1, 2], &[1, 3], &[1, 4]]);
+    // Neither the parent nor the minutes decide; the totals tell the rows apart.
+    let rows = [Row::new(9, 7, 3, 8), Row::new(0, 7, 3, -5), Row::new(8, 7, 3, 1)];
+    let image = build_all(&rows, 0, None, Start::Numerals(&[7]));
+    assert_eq!(paths(&image), [[1], [2], [3]]);
+    assert_eq!(image.totals[..4], [0, 8, 3, 4]);
+}
+
+#[test]
+fn equal_rows_follow_their_present_row_numbers() {
+    let mut board = Board::EMPTY;
+    for (call, expected) in [
+        (Call::Add(timed(5)), &[5][..]),
+        (Call::Add(timed(60)), &[5, 60]),
+        (Call::Add(timed(700)), &[5, 60, 700]),
+        // Row 1 goes, and is entered again as row 3.
+        (Call::Withdraw(1), &[60, 700]),
+        (Call::Add(timed(5)), &[60, 700, 5]),
+        (Call::Undo, &[60, 700]),
+        (Call::Undo, &[5, 60, 700]),
+        (Call::Redo, &[60, 700]),
+        (Call::Redo, &[60, 700, 5]),
+    ] {
+        board = done(board, call);
+        let image = build_all(board.held(), 0, None, Start::ParentZero);
+        let own: Vec<i64> =
+            (1..=image.built.nodes).map(|r| path_sum(&image.index, &image.totals, r).sum).collect();
+        assert_eq!(own, expected, "{call:?}");
+    }
+}
+
+#[test]
+fn each_order_and_numeral_twice() {
+    // Largest order first and in it largest numeral first, so that each pair of equal rows keeps
+    // its order and the nine pairs come in reverse.
+    let mut rows = Vec::new();
+    for order in [9, 5, 0] {
+        for numeral in [9, 5, 1] {
+            rows.extend([row(0, numeral, order); 2]);
+        }
+    }
+    let expected = [17, 18, 15, 16, 13, 14, 11, 12, 9, 10, 7, 8, 5, 6, 3, 4, 1, 2];
+    let found = forest_of(&rows, 0, Start::ParentZero);
+    assert_eq!(found.start_rows, expected);
+    assert_eq!(found.nodes.iter().map(|node| node.rows[0]).collect::<Vec<_>>(), expected);
+    // The sibling order of any two is that of their places.
+    for (place, &a) in expected.iter().enumerate() {
+        for (other, &b) in expected.iter().enumerate() {
+            assert_eq!(forest::sibling_order(&rows, a, b), place.cmp(&other));
+        }
+    }
+}
+
+#[test]
+fn start_rows_of_equal_order() {
+    // Order 1: row 6. Order 2: numeral 10 twice, by row number, then 20 and 30. Order 3: row 5.
+    let rows = [
+        row(0, 30, 2),
+        row(0, 10, 2),
+        row(0, 20, 2),
+        row(0, 10, 2),
+        row(0, 5, 3),
+        row(0, 40, 1),
+        row(10, 50, 0),
+    ];
+    let image = build_all(&rows, 0, None, Start::ParentZero);
+    assert_eq!(paths(&image), [&[6][..], &[2], &[2, 7], &[4], &[4, 7], &[3], &[1], &[5]]);
+    assert_eq!(forest_of(&rows, 0, Start::ParentZero).start_rows, [6, 2, 4, 3, 1, 5]);
+}
+
+#[test]
+fn start_rows_by_list_of_equal_order() {
+    // Order 4: numeral 20 twice, by row number whatever their parents, then 30. The order of the
+    // list decides nothing. Row 1 is left over, and as an orphan root comes last.
+    let rows = [row(0, 1, 1), row(1, 30, 4), row(1, 20, 4), row(9, 20, 4), row(1, 10, 6)];
+    for list in [&[30, 10, 20, 20, 77][..], &[10, 20, 30], &[20, 30, 10]] {
+        let start = Start::Numerals(list);
+        let image = build_all(&rows, 0, None, start);
+        assert_eq!(image.built, accepted(4, 1));
+        assert_eq!(paths(&image), [[3], [4], [2], [5]]);
+        assert_eq!(forest_of(&rows, 0, start).start_rows, [3, 4, 2, 5]);
+        assert_eq!(paths(&build_all(&rows, 3, None, start)), [[3], [4], [2], [5], [1]]);
+    }
+    // Rows 2 and 3 stand as roots and below row 1, both times the lower numeral first.
+    let rows = [row(0, 10, 5), row(10, 30, 2), row(10, 20, 2)];
+    let image = build_all(&rows, 0, None, Start::Numerals(&[30, 20, 10]));
+    assert_eq!(paths(&image), [&[3][..], &[2], &[1], &[1, 3], &[1, 2]]);
+}
+
+#[test]
+fn adopting_row_is_last_by_order_then_numeral_then_row_number() {
+    let adopted = |rows: &[Row], start: Start, expected: &[&[u32]]| {
+        let image = build_all(rows, 2, None, start);
+        assert_eq!(image.built, accepted(rows.len() as u32, 0));
+        assert_eq!(paths(&image), expected);
+        // The last node is the only orphan.
+        assert_eq!(orphans(&image).iter().position(|orphan| *orphan), Some(rows.len() - 1));
+    };
+    let on = Start::ParentZero;
+    let orphan = row(50, 4, 0);
+    // By order: row 2 has the larger numeral and row number.
+    adopted(&[row(0, 1, 9), row(0, 3, 8), orphan], on, &[&[2], &[1], &[1, 3]]);
+    // By numeral: row 2 has the larger row number.
+    adopted(&[row(0, 30, 9), row(0, 20, 9), orphan], on, &[&[2], &[1], &[1, 3]]);
+    adopted(&[row(0, 1, 9), row(0, 2, 9), row(0, 3, 8), orphan], on, &[&[3], &[1], &[2], &[2, 4]]);
+    // By row number among rows 1 and 2; row 3 has the largest row number and a lower numeral.
+    adopted(
+        &[row(0, 20, 9), row(0, 20, 9), row(0, 10, 9), orphan],
+        on,
+        &[&[3], &[1], &[2], &[2, 4]],
+    );
+    // By list: row 1's parent is no row's numeral, and it starts all the same.
+    let list = Start::Numerals(&[20, 30]);
+    adopted(&[row(5, 30, 9), row(0, 20, 9), orphan], list, &[&[2], &[1], &[1, 3]]);
+    adopted(
+        &[row(5, 30, 9), row(0, 30, 9), row(0, 20, 9), orphan],
+        list,
+        &[&[3], &[1], &[2], &[2, 4]],
+    );
+}
+
+#[test]
+fn adopting_row_of_equal_order_decides_refusal_11() {
+    // Leaves only, and row 1 adopts: its tree size is 2, row 2's is 1. Row 3 shares its numeral with
+    // row 2, a leaf; then with row 1.
+    let rows = [row(0, 30, 9), row(0, 20, 9), row(50, 20, 0)];
+    assert_eq!(build_all(&rows, 6, None, Start::ParentZero).built, accepted(3, 0));
+    let rows = [row(0, 30, 9), row(0, 20, 9), row(50, 30, 0)];
+    assert_eq!(build_all(&rows, 6, None, Start::ParentZero).built, refused(11));
+}
+
+#[test]
+fn top_orphans_of_equal_order() {
+    let rows = [
+        row(80, 3, 1),
+        row(0, 50, 1),
+        row(81, 2, 1),
+        row(0, 40, 1),
+        row(81, 2, 1),
+        row(82, 1, 0),
+        row(50, 60, 9),
+        row(3, 9, 4),
+        row(3, 8, 4),
+    ];
+    // Regular: 40, 50 with 60 below. Top orphans: order 0, row 6; order 1, numeral 2 twice by row
+    // number, then 3 with 8 and 9 below.
+    let image = build_all(&rows, 3, None, Start::ParentZero);
+    assert_eq!(paths(&image), [&[4][..], &[2], &[2, 7], &[6], &[3], &[5], &[1], &[1, 9], &[1, 8]]);
+    assert_eq!(Body::read(&image.index, 2).size, 2);
+    let last_six = [false, false, false, true, true, true, true, true, true];
+    assert_eq!(orphans(&image), last_six);
+    // Adopted by row 2, whose numeral is the larger one, and after its regular row of order 9.
+    let image = build_all(&rows, 2, None, Start::ParentZero);
+    assert_eq!(
+        paths(&image),
+        [&[4][..], &[2], &[2, 7], &[2, 6], &[2, 3], &[2, 5], &[2, 1], &[2, 1, 9], &[2, 1, 8]]
+    );
+    assert_eq!(Body::read(&image.index, 2).size, 8);
+    assert_eq!(orphans(&image), last_six);
+    for orphan in 0..4 {
+        assert_eq!(forest_of(&rows, orphan, Start::ParentZero).top_orphans, [6, 3, 5, 1]);
+    }
+}
+
+#[test]
+fn parent_zero_orphans_of_equal_order() {
+    // Row 3 alone starts; the others have parent 0 and end no regular path.
+    let rows = [row(0, 5, 1), row(0, 4, 1), row(8, 7, 1), row(0, 4, 1)];
+    let start = Start::Numerals(&[7]);
+    assert_eq!(paths(&build_all(&rows, 3, None, start)), [[3], [2], [4], [1]]);
+    assert_eq!(paths(&build_all(&rows, 2, None, start)), [&[3][..], &[3, 2], &[3, 4], &[3, 1]]);
+}
+
+#[test]
+fn several_rows_of_one_numeral() {
+    // Rows 1 and 2 differ by row number alone, so all paths over row 1 come before those over row 2,
+    // whatever the rows that follow.
+    let rows = [
+        Row::new(0, 10, 1, 1),
+        Row::new(0, 10, 1, 10),
+        Row::new(10, 20, 5, 100),
+        Row::new(10, 15, 5, 1_000),
+    ];
+    let image = build_all(&rows, 0, None, Start::ParentZero);
+    assert_eq!(paths(&image), [&[1][..], &[1, 4], &[1, 3], &[2], &[2, 4], &[2, 3]]);
+    assert_eq!(image.totals[..7], [0, 1, 1_001, 1_101, 1_111, 2_111, 2_211]);
+    for (rank, subtree, path) in [
+        (1, 1_101, 1),
+        (2, 1_000, 1_001),
+        (3, 100, 101),
+        (4, 1_110, 10),
+        (5, 1_000, 1_010),
+        (6, 100, 110),
+    ] {
+        let (index, totals) = (&image.index, &image.totals);
+        assert_eq!(subtree_sum(index, totals, rank), Summed { refusal: 0, sum: subtree });
+        assert_eq!(path_sum(index, totals, rank), Summed { refusal: 0, sum: path });
+    }
+    let mut list = [0; 3];
+    assert_eq!(descendants(&image.index, 4, 0, 1, &mut list), Listed { refusal: 0, length: 3 });
+    assert_eq!(list, [4, 5, 6]);
+    assert_eq!(descendants(&image.index, 1, 1, 1, &mut list), Listed { refusal: 0, length: 2 });
+    assert_eq!(list, [2, 3, 6]);
+
+    // By order first, so the rows of one numeral needn't stand together.
+    let rows = [row(0, 10, 1), row(10, 20, 5), row(10, 20, 4), row(10, 15, 5)];
+    let image = build_all(&rows, 0, None, Start::ParentZero);
+    assert_eq!(paths(&image), [&[1][..], &[1, 3], &[1, 4], &[1, 2]]);
+}
+
+#[test]
+fn rows_below_several_parents_of_equal_order() {
+    // 10 over 30 and 20, both over 7, which is over 9 and twice 8. The first differing row decides,
+    // 20 before 30, although row 5 below 30 has a smaller order than row 4 below 20.
+    let rows = [
+        row(0, 10, 1),
+        row(10, 30, 1),
+        row(10, 20, 1),
+        row(20, 7, 9),
+        row(30, 7, 0),
+        row(7, 9, 3),
+        row(7, 8, 3),
+        row(7, 8, 3),
+    ];
+    let image = build_all(&rows, 0, None, Start::ParentZero);
+    assert_eq!(
+        paths(&image),
+        [
+            &[1][..],
+            &[1, 3],
+            &[1, 3, 4],
+            &[1, 3, 4, 7],
+            &[1, 3, 4, 8],
+            &[1, 3, 4, 6],
+            &[1, 2],
+            &[1, 2, 5],
+            &[1, 2, 5, 7],
+            &[1, 2, 5, 8],
+            &[1, 2, 5, 6],
+        ]
+    );
+    // The order of any two nodes is that of their ranks.
+    let nodes = forest_of(&rows, 0, Start::ParentZero).nodes;
+    for (place, a) in nodes.iter().enumerate() {
+        for (other, b) in nodes.iter().enumerate() {
+            assert_eq!(forest::node_order(&rows, a, b), place.cmp(&other));
+        }
+    }
+}
+
+#[test]
+fn closing_row_and_open_sibling_of_equal_order() {
+    let on = Start::ParentZero;
+    // Numeral 10 closes, and comes before the open 30 and the row below it.
+    let rows = [row(0, 10, 1), row(10, 20, 1), row(20, 30, 5), row(20, 10, 5), row(30, 40, 0)];
+    let image = build_all(&rows, 0, None, on);
+    assert_eq!(paths(&image), [&[1][..], &[1, 2], &[1, 2, 4], &[1, 2, 3], &[1, 2, 3, 5]]);
+    assert_eq!(closings(&image), [false, false, true, false, false]);
+    // Numeral 30 closes, and comes after the open 10.
+    let rows = [row(0, 30, 1), row(30, 20, 1), row(20, 30, 5), row(20, 10, 5)];
+    let image = build_all(&rows, 0, None, on);
+    assert_eq!(paths(&image), [&[1][..], &[1, 2], &[1, 2, 4], &[1, 2, 3]]);
+    assert_eq!(closings(&image), [false, false, false, true]);
+    // Siblings of one numeral close both, by row number.
+    let rows = [row(0, 10, 1), row(10, 20, 1), row(20, 10, 5), row(20, 10, 5)];
+    let image = build_all(&rows, 0, None, on);
+    assert_eq!(paths(&image), [&[1][..], &[1, 2], &[1, 2, 3], &[1, 2, 4]]);
+    assert_eq!(closings(&image), [false, false, true, true]);
+    // Row 3 is open below row 2 as a root and closes where row 2 stands below row 3; both times it
+    // comes before row 1.
+    let rows = [row(20, 15, 5), row(10, 20, 1), row(20, 10, 5)];
+    let image = build_all(&rows, 0, None, Start::Numerals(&[10, 20]));
+    assert_eq!(
+        paths(&image),
+        [&[2][..], &[2, 3], &[2, 3, 2], &[2, 1], &[3], &[3, 2], &[3, 2, 3], &[3, 2, 1]]
+    );
+    assert_eq!(closings(&image), [false, false, true, false, false, false, true, false]);
+}
+
+#[test]
+fn orders_and_numerals_at_their_ends() {
+    let top = u32::MAX;
+    let half = 1 << 31;
+    // Numeral and order of rows 1 to 11, and the rows in sibling order.
+    let places = [
+        (top, 0),
+        (1, top),
+        (top, top),
+        (1, 0),
+        (half, 0),
+        (half - 1, 0),
+        (1, 1),
+        (top, top),
+        (1, top - 1),
+        (top, half - 1),
+        (1, half),
+    ];
+    let expected = [4, 6, 5, 1, 7, 10, 11, 9, 2, 3, 8];
+    let below = |parent: u32| -> Vec<Row> {
+        places.iter().map(|&(numeral, order)| row(parent, numeral, order)).collect()
+    };
+    // As start rows; the last of them adopts row 12.
+    let mut rows = below(0);
+    rows.push(row(600, 1, 0));
+    let image = build_all(&rows, 2, None, Start::ParentZero);
+    let mut roots: Vec<Vec<u32>> = expected.iter().map(|&k| vec![k]).collect();
+    roots.push(vec![8, 12]);
+    assert_eq!(paths(&image), roots);
+    // As rows of one parent, row 12.
+    let mut rows = below(500);
+    rows.push(row(0, 500, 3));
+    let image = build_all(&rows, 0, None, Start::ParentZero);
+    let mut children = vec![vec![12]];
+    children.extend(expected.map(|k| vec![12, k]));
+    assert_eq!(paths(&image), children);
+    // As top orphans, after the regular root.
+    rows[11].numeral = 501;
+    let image = build_all(&rows, 3, None, Start::ParentZero);
+    let mut roots = vec![vec![12]];
+    roots.extend(expected.map(|k| vec![k]));
+    assert_eq!(paths(&image), roots);
+}
+
+#[test]
+fn sums_and_lists_with_an_adopting_row_of_equal_order() {
+    // Rank 1 is row 2 (numeral 20). Rank 2 is row 1 (30), then 5 and 6 below it, then the orphan.
+    let rows = [
+        Row::new(0, 30, 9, 1),
+        Row::new(0, 20, 9, 10),
+        Row::new(50, 4, 0, 100),
+        Row::new(30, 6, 2, 1_000),
+        Row::new(30, 5, 2, 10_000),
+    ];
+    let image = build_all(&rows, 2, None, Start::ParentZero);
+    assert_eq!(paths(&image), [&[2][..], &[1], &[1, 5], &[1, 4], &[1, 3]]);
+    let sums: Vec<i64> = (1..=5).map(|r| subtree_sum(&image.index, &image.totals, r).sum).collect();
+    assert_eq!(sums, [10, 11_101, 10_000, 1_000, 100]);
+    let mut list = [0; 4];
+    assert_eq!(descendants(&image.index, 1, 0, 9, &mut list), Listed { refusal: 0, length: 1 });
+    assert_eq!(list, [1, 0, 0, 0]);
+    assert_eq!(descendants(&image.index, 2, 0, 9, &mut list), Listed { refusal: 0, length: 4 });
+    assert_eq!(list, [2, 3, 4, 5]);
+    assert_eq!(siblings(&image.index, 5, &mut list), Listed { refusal: 0, length: 3 });
+    assert_eq!(list, [3, 4, 5, 5]);
+    assert_eq!(span(&image.index, 2), Spanned { refusal: 0, words: 14..38 });
 }
 
 // Soundness.
@@ -1269,4 +1637,30 @@ fn its_index_holds_2_700_nodes() {
     prints(&format!("{text}0 3 1 1\n"), "refused 9\n");
     prints(&format!("{text}8 3 1 1\n"), "refused 9\n");
     prints(&format!("{text}3 3 1 1\n"), &output);
+}
+
+#[test]
+fn lines_of_equal_order() {
+    // Regular roots 1 and 2, then the orphans 3 and 4. No two lines have equal order and numeral, so
+    // the line's number decides nothing.
+    let lines = ["8 4 1 100", "0 2 1 1", "8 3 1 200", "0 1 1 2"];
+    let output = "rank size parent level root cycle orphan id sum
+1 1 0 1 1 0 0 1 2
+2 1 0 1 2 0 0 2 1
+3 1 0 1 3 0 1 3 200
+4 1 0 1 4 0 1 4 100
+";
+    for first in 0..4 {
+        let mut turned = lines;
+        turned.rotate_left(first);
+        prints(&turned.join("\n"), output);
+        turned.reverse();
+        prints(&turned.join("\n"), output);
+    }
+    // Lines of equal order and numeral keep their order; the sums tell them apart.
+    let header = "rank size parent level root cycle orphan id sum\n";
+    prints(
+        "0 1 1 7\n0 1 1 9\n0 1 1 8\n",
+        &format!("{header}1 1 0 1 1 0 0 1 7\n2 1 0 1 2 0 0 1 9\n3 1 0 1 3 0 0 1 8\n"),
+    );
 }
