@@ -75,6 +75,32 @@ fn m1_listing() {
     assert_eq!(numerals(&INPUT[..INPUT.len() - 1]), LISTING.as_bytes());
 }
 
+/// The marked board with the order of row 2 made equal to row 3's: 20 comes before 30, in whatever
+/// order the lines are, as no two rows of one parent have equal order and numeral.
+#[test]
+fn the_listing_with_equal_orders() {
+    let mut lines: Vec<&[u8]> = INPUT.split_inclusive(|byte| *byte == b'\n').collect();
+    assert_eq!(lines[1], b"10 20 2 3\n");
+    lines[1] = b"10 20 1 3\n";
+    let listing = "rank size parent level root cycle orphan id sum
+1 8 0 1 1 0 0 10 15
+2 3 1 2 1 0 0 20 4
+3 2 2 3 1 0 0 40 1
+4 1 3 4 1 1 0 20 -1
+5 4 1 2 1 0 0 30 6
+6 3 5 3 1 0 0 40 2
+7 2 6 4 1 0 0 20 1
+8 1 7 5 1 1 0 40 2
+9 1 0 1 9 0 1 91 7
+";
+    for _ in 0..7 {
+        lines.rotate_left(1);
+        assert_eq!(String::from_utf8(numerals(&lines.concat())).unwrap(), listing);
+        let reversed: Vec<&[u8]> = lines.iter().rev().copied().collect();
+        assert_eq!(String::from_utf8(numerals(&reversed.concat())).unwrap(), listing);
+    }
+}
+
 #[test]
 fn m1_words() {
     let image = built(3, None);
