@@ -173,23 +173,24 @@ impl Links {
         }
         keys.sort_unstable();
         let mut classes = 0;
-        for key in keys.iter() {
-            let (numeral, place) = ((key >> 10) as u32, (key & 1_023) as usize);
+        for (at, key) in keys.iter_mut().enumerate() {
+            let (numeral, place) = ((*key >> 10) as u32, (*key & 1_023) as usize);
             if classes == 0 || numerals[classes - 1] != numeral {
                 numerals[classes] = numeral;
                 classes += 1;
             }
             links.class_of[place] = classes as u16 - 1;
+            // `at` stands for numeral and place: by order and then by it, rows are in sibling order.
+            *key = (rows[place].order as u64) << 20 | (at as u64) << 10 | place as u64;
         }
+        keys.sort_unstable();
 
         for (place, row) in rows.iter().enumerate() {
             if let Ok(class) = numerals[..classes].binary_search(&row.parent) {
                 links.parent_class[place] = class as u16;
                 links.begin[class + 1] += 1;
             }
-            keys[place] = (row.order as u64) << 10 | place as u64;
         }
-        keys.sort_unstable();
         for class in 0..classes {
             links.begin[class + 1] += links.begin[class];
         }
