@@ -13,12 +13,15 @@ pub fn any_entry(random: &mut Random) -> Entry {
     }
 }
 
-/// A board with the given numbers: held rows with numeral 1 or more, noise in
-/// all other words, numeral 0 and bad entries among them.
+/// A board with the given numbers: held rows with numeral 1 or more, many of
+/// which tie with the one before, noise in all other words, numeral 0 and bad
+/// entries among them.
 pub fn noisy_board(random: &mut Random, count: usize, kept: usize, undone: usize) -> Board {
     let mut board = Board::EMPTY;
+    let mut last = random.row();
     for (place, row) in board.rows.iter_mut().enumerate() {
-        *row = if place < count { random.row() } else { random.any_row() };
+        last = random.row_beside(last);
+        *row = if place < count { last } else { random.any_row() };
     }
     for entry in board.journal.iter_mut() {
         *entry = any_entry(random);

@@ -3,6 +3,7 @@
 use crate::random::Random;
 use reference::forest::forest;
 use reference::{Options, Row, Start, BODY, CONTENTS, MAX_ROWS};
+use std::cmp::Reverse;
 
 /// Shape of a row list.
 #[derive(Clone, Copy, Debug, PartialEq, Eq)]
@@ -26,10 +27,13 @@ pub enum Shape {
     Diamonds,
     /// Parents and numerals from a small range.
     Noise,
+    /// Three levels of few numerals and one or two orders: start rows, top orphans
+    /// and children of shared numerals that tie.
+    Ties,
 }
 
 /// All shapes.
-pub const SHAPES: [Shape; 9] = [
+pub const SHAPES: [Shape; 10] = [
     Shape::Tree,
     Shape::Chain,
     Shape::Wide,
@@ -39,6 +43,7 @@ pub const SHAPES: [Shape; 9] = [
     Shape::Duplicates,
     Shape::Diamonds,
     Shape::Noise,
+    Shape::Ties,
 ];
 
 /// Edges of a tree over the numerals `first` to `last`; the first has parent 0.
@@ -77,8 +82,24 @@ fn ring(first: u32, last: u32, edges: &mut Vec<(u32, u32)>) {
     }
 }
 
+/// Edges of three levels of few numerals; on the first, parents are missing as
+/// often as not.
+fn tied(random: &mut Random, size: usize, edges: &mut Vec<(u32, u32)>) {
+    let range = (size / 4).max(2);
+    for number in 0..size {
+        let level = number % 3;
+        let parent = match level {
+            0 if random.chance(1, 2) => 0,
+            0 => MISSING + random.below(2) as u32,
+            _ => ((level - 1) * range + random.between(1, range)) as u32,
+        };
+        edges.push((parent, (level * range + random.between(1, range)) as u32));
+    }
+}
+
 /// Rows of a shape; at most `size` of them, where `size` is 1 to 1,024. Rows
-/// come in random order, with random labels as numerals and ties in the order.
+/// come in random order or with falling numerals, with random labels as numerals
+/// and ties in the order.
 pub fn rows(random: &mut Random, shape: Shape, size: usize) -> Vec<Row> {
     let last = size as u32;
     let mut edges: Vec<(u32, u32)> = Vec::new();
@@ -179,25 +200,38 @@ pub fn rows(random: &mut Random, shape: Shape, size: usize) -> Vec<Row> {
                 edges.push((random.between(0, range) as u32, random.between(1, range) as u32));
             }
         }
+        Shape::Ties => tied(random, size, &mut edges),
     }
     random.shuffle(&mut edges);
+    rows_of(random, shape, edges)
+}
 
-    // Labels: the numbers themselves, or far apart up to the widest word.
+/// Rows of the edges. Labels are the numbers themselves, or far apart up to the
+/// widest word.
+fn rows_of(random: &mut Random, shape: Shape, edges: Vec<(u32, u32)>) -> Vec<Row> {
     let far = random.chance(1, 2);
     let label = |number: u32| match number {
         0 => 0,
         number if far => u32::MAX - (number - 1) * 97,
         number => number,
     };
-    let orders = random.pick(&[1, 3, 1_000]);
-    edges
+    let orders = random.pick(if shape == Shape::Ties { &[1, 2] } else { &[1, 3, 1_000] });
+    // Where all minutes are the same, rows of one parent, numeral and order are equal in all fields.
+    let same_minutes = random.chance(1, 4).then(|| random.minutes());
+    let mut rows: Vec<Row> = edges
         .into_iter()
         .map(|(parent, numeral)| {
             let order =
                 if random.chance(1, 20) { random.word() } else { random.below(orders) as u32 };
-            Row::new(label(parent), label(numeral), order, random.minutes())
+            let minutes = same_minutes.unwrap_or_else(|| random.minutes());
+            Row::new(label(parent), label(numeral), order, minutes)
         })
-        .collect()
+        .collect();
+    if random.chance(1, 8) {
+        // Row numbers speak against the numerals in every tie.
+        rows.sort_by_key(|row| Reverse(row.numeral));
+    }
+    rows
 }
 
 /// A row count: few mostly, sometimes many, up to 1,024.
@@ -270,7 +304,6 @@ pub fn start(random: &mut Random, rows: &[Row]) -> Option<Vec<u32>> {
 /// A build with its slices, filled with noise beforehand.
 #[derive(Clone, Debug)]
 pub struct BuildCase {
-    pub shape: Shape,
     pub rows: Vec<Row>,
     pub code: u32,
     pub depth: Option<i32>,
@@ -336,12 +369,17 @@ pub fn slice_lengths(random: &mut Random, n: usize) -> (usize, usize) {
     (index, totals)
 }
 
-/// A random build. Boards of more than 3,000 nodes get slices that are too
-/// short; `builds::large_case` makes the ones at the node limit.
+/// A random build of random rows.
 pub fn build_case(random: &mut Random) -> BuildCase {
     let shape = random.pick(&SHAPES);
     let size = size(random);
     let rows = if random.chance(1, 60) { Vec::new() } else { rows(random, shape, size) };
+    build_case_of(random, rows)
+}
+
+/// A random build of the rows. Those of more than 3,000 nodes get slices that
+/// are too short; `builds::large_case` makes the ones at the node limit.
+pub fn build_case_of(random: &mut Random, rows: Vec<Row>) -> BuildCase {
     let (code, depth) = options(random);
     let start = start(random, &rows);
     let n = node_count(&rows, code, depth, start_of(&start), 3_000);
@@ -353,7 +391,7 @@ pub fn build_case(random: &mut Random) -> BuildCase {
         }
     };
     let (index, totals) = (random.noise(index), random.wide_noise(totals));
-    BuildCase { shape, rows, code, depth, start, index, totals }
+    BuildCase { rows, code, depth, start, index, totals }
 }
 
 /// A build of `nodes` nodes, near the limit of 65,535: `a` start rows of one
@@ -379,5 +417,5 @@ pub fn large_case(random: &mut Random, nodes: usize) -> BuildCase {
     random.shuffle(&mut rows);
     let index = random.noise(CONTENTS + BODY * 65_536);
     let totals = random.wide_noise(65_537);
-    BuildCase { shape: Shape::Wide, rows, code, depth: None, start: None, index, totals }
+    BuildCase { rows, code, depth: None, start: None, index, totals }
 }

@@ -98,6 +98,17 @@ impl Writer {
         }
     }
 
+    /// A row to add, with numeral 1 or more; it often ties with one added before.
+    fn row(&self, random: &mut Random) -> Row {
+        if self.calls.is_empty() {
+            return random.row();
+        }
+        match random.pick(&self.calls) {
+            Call::Add(row) if row.numeral != 0 => random.row_beside(row),
+            _ => random.row(),
+        }
+    }
+
     /// A call that is accepted where one can be, by the given weights.
     fn weighted(&mut self, random: &mut Random, weights: [usize; 5]) {
         let mut at = random.below(weights.iter().sum());
@@ -107,7 +118,7 @@ impl Writer {
             kind += 1;
         }
         let call = match kind {
-            0 => Call::Add(random.row()),
+            0 => Call::Add(self.row(random)),
             1 => Call::Withdraw(self.number(random)),
             2 => Call::Remark(self.number(random), random.minutes()),
             3 => Call::Undo,
@@ -196,7 +207,7 @@ pub fn history(random: &mut Random, kind: History) -> Vec<Call> {
             while writer.kept.len() < MAX_KEPT {
                 writer.weighted(random, [3, 2, 5, 0, 0]);
             }
-            let row = random.row();
+            let row = writer.row(random);
             writer.call(Call::Add(row));
             writer.repeat(Call::Undo, MAX_KEPT + 1);
             if random.chance(1, 2) {
@@ -208,7 +219,7 @@ pub fn history(random: &mut Random, kind: History) -> Vec<Call> {
         }
         History::Full => {
             for _ in 0..MAX_ROWS {
-                let row = random.row();
+                let row = writer.row(random);
                 writer.call(Call::Add(row));
             }
             for _ in 0..random.between(20, 400) {

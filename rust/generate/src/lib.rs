@@ -13,9 +13,10 @@ pub mod histories;
 pub mod indexes;
 pub mod listings;
 pub mod random;
+pub mod ties;
 
 pub use boards::{holding, sound_boards, stepped_board, unsound_boards};
-pub use builds::{build_case, rows, BuildCase, Shape, SHAPES};
+pub use builds::{build_case, build_case_of, rows, BuildCase, Shape, SHAPES};
 pub use histories::{history, history_on, History, HISTORIES};
 pub use indexes::{index, navigation_case, totals, NavigationCase};
 pub use listings::listing;

@@ -108,6 +108,19 @@ impl Random {
         Row::new(self.word(), self.numeral(), self.word(), self.minutes())
     }
 
+    /// A row with numeral 1 or more, as `other` must have; in one of three cases a
+    /// sibling that ties with it: of its order, of its numeral too, or equal in all
+    /// fields.
+    pub fn row_beside(&mut self, other: Row) -> Row {
+        let row = self.row();
+        match self.below(9) {
+            0 => Row { numeral: row.numeral, ..other },
+            1 => Row { minutes: row.minutes, ..other },
+            2 => other,
+            _ => row,
+        }
+    }
+
     /// A row of any words, numeral 0 among them.
     pub fn any_row(&mut self) -> Row {
         Row::new(self.word(), self.word(), self.word(), self.minutes())

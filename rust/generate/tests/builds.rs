@@ -75,11 +75,12 @@ fn tried(rows: &[Row], orphan: u32, depth: Option<i32>, start: Start) -> Result<
         unreached.contains(&k) && (parent == 0 || !rows.iter().any(|row| row.numeral == parent))
     };
     let starts: Vec<usize> = (1..=rows.len()).filter(|k| is_start(*k)).collect();
+    let key = |k: &usize| (rows[*k - 1].order, numeral(rows, *k), *k);
     if orphan == 2 && starts.is_empty() && (1..=rows.len()).any(top) {
         return Err(8);
     }
     if orphan == 2 || orphan == 3 {
-        let adopting = starts.iter().max_by_key(|k| (rows[**k - 1].order, **k));
+        let adopting = starts.iter().max_by_key(|k| key(k));
         for list in &lists {
             if top(list[0]) && list.iter().all(|k| unreached.contains(k)) {
                 if let Some(closing) = linked(rows, list) {
@@ -93,10 +94,8 @@ fn tried(rows: &[Row], orphan: u32, depth: Option<i32>, start: Start) -> Result<
         }
     }
     nodes.sort_by(|a, b| {
-        let key = |node: &Node| -> Vec<(u32, usize)> {
-            node.rows.iter().map(|k| (rows[*k - 1].order, *k)).collect()
-        };
-        a.orphan.cmp(&b.orphan).then(key(a).cmp(&key(b)))
+        let keys = |node: &Node| node.rows.iter().map(key).collect::<Vec<_>>();
+        a.orphan.cmp(&b.orphan).then(keys(a).cmp(&keys(b)))
     });
     Ok(nodes)
 }
@@ -204,11 +203,23 @@ fn every_list_tried() {
         let n = nodes.as_ref().map_or(0, |nodes| nodes.len());
         let (index, totals) = generate::builds::slice_lengths(&mut random, n);
         let (index, totals) = (random.noise(index), random.wide_noise(totals));
-        let case = BuildCase { shape, rows, code, depth, start, index, totals };
+        let case = BuildCase { rows, code, depth, start, index, totals };
         seen[compare(&case, &nodes) as usize] += 1;
     }
     println!("refusals 0 to 12: {seen:?}");
     assert!([0, 6, 7, 8, 9, 10, 11, 12].iter().all(|refusal| seen[*refusal] > 20), "{seen:?}");
+}
+
+/// A numeral decides some tie exactly where equal orders by row number alone give another order of
+/// the nodes.
+fn ties_are_found(rows: &[Row], nodes: &[Node], index: &[u32]) {
+    let mut by_row_number = nodes.to_vec();
+    by_row_number.sort_by_key(|node| {
+        let keys: Vec<_> = node.rows.iter().map(|k| (rows[k - 1].order, *k)).collect();
+        (node.orphan, keys)
+    });
+    let found = ties::ties(rows, index).iter().any(ties::Tie::by_numeral);
+    assert_eq!(found, by_row_number != nodes, "{rows:?}");
 }
 
 /// Larger boards: the nodes are taken from the listing by recursion, but order,
@@ -243,7 +254,9 @@ fn generated_builds() {
         let refusal = compare(&case, &nodes);
         seen[refusal as usize] += 1;
         if refusal == 0 {
-            assert!(index_check(&run(&case).1));
+            let index = run(&case).1;
+            assert!(index_check(&index));
+            ties_are_found(&case.rows, &nodes.unwrap(), &index);
         }
     }
     println!("refusals 0 to 12: {seen:?}");
@@ -268,12 +281,12 @@ fn cases_reached() {
         "shared numeral",
         "shared leaf under leaves",
         "start row below a start row",
-        "tie of order",
         "cut by the depth",
         "negative depth",
         "exact slices",
         "over 500 nodes",
     ];
+    let names: Vec<&str> = names.into_iter().chain(ties::FACTS).collect();
     let mut seen = vec![0; names.len()];
     for _ in 0..4_000 {
         let case = build_case(&mut random);
@@ -310,19 +323,14 @@ fn cases_reached() {
             few && any(&|b| sharing(b)),
             few && options.multi == 1 && any(&|b| sharing(b)),
             few && any(&|b| b.level > 1 && bodies.iter().any(|r| r.level == 1 && r.row == b.row)),
-            few && any(&|b| {
-                let order = |body: &Body| case.rows[body.row as usize - 1].order;
-                let twin =
-                    |o: &Body| o.parent == b.parent && o.row != b.row && order(o) == order(b);
-                bodies.iter().any(twin)
-            }),
             case.depth.is_some_and(|d| d >= 0)
                 && any(&|b| b.level as i64 == case.depth.unwrap() as i64 + 1),
             case.depth.is_some_and(|d| d < 0),
             case.index.len() == 8 + 6 * n && case.totals.len() == n + 1,
             !few,
         ];
-        for (count, fact) in seen.iter_mut().zip(facts) {
+        let ties = ties::facts(&case.rows, &index);
+        for (count, fact) in seen.iter_mut().zip(facts.into_iter().chain(ties)) {
             *count += fact as u32;
         }
     }
