@@ -6,12 +6,13 @@ use crate::{baseline, navigation};
 use flowpewter::sys;
 use generate::builds::{large_case, start_of};
 use generate::{
-    build_case, holding, rows, unsound_boards, BuildCase, NavigationCase, Random, SHAPES,
+    build_case, build_case_of, holding, rows, ties, unsound_boards, BuildCase, NavigationCase,
+    Random, SHAPES,
 };
 use reference::{build_board, Built};
 
-/// One build on both sides, and by the baseline that the library is measured against. Answers the case with its
-/// slices as they are afterwards.
+/// One build on both sides, and by the baseline that the library is measured against; counts what ties come to in it.
+/// Answers the case with its slices as they are afterwards.
 pub fn compare(
     reference: &reference::Board,
     case: &BuildCase,
@@ -38,6 +39,13 @@ pub fn compare(
         let built = sys::build_default(&library, &mut index, &mut totals);
         same(case, expected, &after, (built.refusal, built.nodes, built.left), &index, &totals);
         tally.note("build_default", expected.refusal);
+    }
+    if expected.refusal == 0 {
+        for (name, fact) in ties::FACTS.into_iter().zip(ties::facts(&case.rows, &after.index)) {
+            if fact {
+                tally.reach(name);
+            }
+        }
     }
     (expected, after)
 }
@@ -80,6 +88,12 @@ pub fn cases(random: &mut Random, tally: &mut Tally) {
     }
 }
 
+/// A random build of a board that edits have left.
+pub fn edited(random: &mut Random, reference: &reference::Board, tally: &mut Tally) {
+    let case = build_case_of(random, reference.held().to_vec());
+    compare(reference, &case, tally);
+}
+
 /// Rows of one shape under every option code and some above, by both start rules.
 pub fn codes(random: &mut Random, tally: &mut Tally) {
     let shape = random.pick(&SHAPES);
@@ -92,10 +106,10 @@ pub fn codes(random: &mut Random, tally: &mut Tally) {
             let index = random.noise(8 + 6 * 2_000);
             let totals = random.wide_noise(2_001);
             let (rows, start) = (rows.clone(), start.clone());
-            let case = BuildCase { shape, rows, code, depth: None, start, index, totals };
+            let case = BuildCase { rows, code, depth: None, start, index, totals };
             let (built, _) = compare(&reference, &case, tally);
             if built.refusal == 0 {
-                tally.note(CODES[code as usize], 0);
+                tally.reach(CODES[code as usize]);
             }
         }
     }

@@ -1,7 +1,7 @@
 //! Edits, soundness and replay.
 
-use crate::baseline;
 use crate::tally::Tally;
+use crate::{baseline, builds};
 use flowpewter::sys::{self, Edited};
 use flowpewter::{Board, Entry, Row, MAX_KEPT, MAX_UNDONE};
 use generate::{history, history_on, sound_boards, unsound_boards, History, Random};
@@ -118,15 +118,18 @@ impl Followed {
 }
 
 /// One list of calls from the empty board against the plain machine and the reference's board, then undone to the
-/// bottom and redone to the top.
+/// bottom and redone to the top; a build after each of the three.
 pub fn histories(random: &mut Random, kind: History, tally: &mut Tally) {
     let library = sys::empty();
     assert!(library == Board::EMPTY);
     let (reference, machine) = (reference::Board::EMPTY, Machine::new());
     let mut followed = Followed { library, reference, machine };
     followed.calls(&history(random, kind), tally);
+    builds::edited(random, &followed.reference, tally);
     followed.to_the_end(Call::Undo, "undo to the bottom", tally);
+    builds::edited(random, &followed.reference, tally);
     followed.to_the_end(Call::Redo, "redo to the top", tally);
+    builds::edited(random, &followed.reference, tally);
 }
 
 /// Any call on boards that no history makes, sound and not, then undo and redo on what it leaves; where every entry can

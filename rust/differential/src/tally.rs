@@ -1,12 +1,13 @@
-//! How often each call gave each refusal.
+//! How often each call gave each refusal, and how often accepted builds reached a case.
 
 use std::collections::BTreeMap;
 use std::fmt;
 
-/// Counts by call and refusal number, 0 for none.
+/// Counts by call and refusal number, 0 for none, and by case.
 #[derive(Clone, Debug, Default, PartialEq, Eq)]
 pub struct Tally {
     seen: BTreeMap<(&'static str, u32), u64>,
+    reached: BTreeMap<&'static str, u64>,
 }
 
 impl Tally {
@@ -18,9 +19,8 @@ impl Tally {
         *self.seen.entry((call, refusal)).or_default() += 1;
     }
 
-    /// Answers of any call with the refusal number.
-    pub fn of_refusal(&self, refusal: u32) -> u64 {
-        self.seen.iter().filter(|((_, number), _)| *number == refusal).map(|(_, count)| count).sum()
+    pub fn reach(&mut self, case: &'static str) {
+        *self.reached.entry(case).or_default() += 1;
     }
 
     /// Answers of the call with the refusal number.
@@ -44,6 +44,14 @@ impl Tally {
             assert!(!foreign, "{call} gave {refusal} {count} times\n{self}");
         }
     }
+
+    /// Fails if one of the cases was reached less than `least` times.
+    pub fn expect_reached(&self, cases: &[&'static str], least: u64) {
+        for case in cases {
+            let count = self.reached.get(case).copied().unwrap_or(0);
+            assert!(count >= least, "{case}: reached only {count} times\n{self}");
+        }
+    }
 }
 
 impl fmt::Display for Tally {
@@ -58,6 +66,9 @@ impl fmt::Display for Tally {
                 0 => write!(f, " accepted {count}")?,
                 _ => write!(f, " [{refusal}] {count}")?,
             }
+        }
+        for (case, count) in &self.reached {
+            write!(f, "\n{case}: reached {count}")?;
         }
         Ok(())
     }

@@ -2,7 +2,7 @@
 
 use differential::builds::{self, CODES};
 use differential::Tally;
-use generate::Random;
+use generate::{ties, Random};
 
 #[test]
 fn builds_of_generated_rows() {
@@ -14,6 +14,7 @@ fn builds_of_generated_rows() {
     println!("{tally}");
     tally.expect("build", &[0, 6, 7, 8, 9, 10, 11, 12], 200);
     tally.expect("build_default", &[0, 9], 60);
+    tally.expect_reached(&ties::FACTS, 40);
 }
 
 #[test]
@@ -24,9 +25,7 @@ fn every_code() {
         builds::codes(&mut random, &mut tally);
     }
     println!("{tally}");
-    for code in CODES {
-        tally.expect(code, &[0], 100);
-    }
+    tally.expect_reached(&CODES, 100);
 }
 
 #[test]

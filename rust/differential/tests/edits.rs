@@ -20,6 +20,8 @@ fn histories() {
     tally.expect("redo", &[0, 17], 100);
     tally.expect("undo to the bottom", &[0, 5], 500);
     tally.expect("redo to the top", &[0, 17], 500);
+    tally.expect("build", &[0, 6, 7, 8, 9, 10, 11, 12], 15);
+    tally.expect_reached(&["another index by row number alone"], 40);
 }
 
 #[test]
