@@ -2,7 +2,7 @@
 //! what the engine gives, row by row and in the printed order; "-" is an empty
 //! field.
 
-use crate::tables::{self, id, numeral, t_demo, t_demo_err};
+use crate::tables::{self, id, numeral, t_demo, t_demo_err, unordered};
 use crate::view::{code, lines, Pick, View};
 use crate::Engine;
 use reference::{Row, Start};
@@ -773,15 +773,16 @@ pub fn s8_1_path(engine: &dyn Engine) {
     assert_eq!(found, lines(PATHS));
 }
 
-/// Paths, by a second hierarchy over the ranks of the first.
+/// Paths, by a second hierarchy over the ranks of the first, siblings ordered by
+/// those ranks.
 pub fn s8_1_path_by_two_hierarchies(engine: &dyn Engine) {
     let view = h_demo(engine);
     let rows: Vec<Row> = view
         .ranks()
         .into_iter()
-        .map(|rank| Row::new(view.image.body(rank).parent, rank, rank, 0))
+        .map(|rank| Row::new(view.image.body(rank).parent, rank, 0, 0))
         .collect();
-    let second = View::default(engine, rows);
+    let second = View::default(engine, unordered(rows));
     let mut found: Vec<String> = second
         .ranks()
         .into_iter()
@@ -915,19 +916,20 @@ pub fn s8_3_cycle_reconstruction(engine: &dyn Engine) {
 
 // 8.4 Generic graph topologies
 
-/// Sum of a limited query: start from B2, DEPTH 2.
+/// Sum of a limited query: start from B2, DEPTH 2, no order of siblings.
 pub fn s8_4_limited_query(engine: &dyn Engine) {
     let start = [numeral("B2")];
-    let view = View::new(engine, t_demo(), code(0, 0, 0), Some(2), Start::Numerals(&start));
+    let rows = unordered(t_demo());
+    let view = View::new(engine, rows, code(0, 0, 0), Some(2), Start::Numerals(&start));
     let sum: i64 = view.ranks().into_iter().map(|rank| view.amount(rank) as i64).sum();
     assert_eq!(sum, 13);
     assert_eq!(view.subtree_sum(1), 13);
     assert_eq!(view.image.totals[view.image.nodes() as usize], 13);
 }
 
-/// Sum of a partial tree of the complete hierarchy.
+/// Sum of a partial tree of the complete hierarchy, no order of siblings.
 pub fn s8_4_partial_tree(engine: &dyn Engine) {
-    let view = h_demo(engine);
+    let view = View::default(engine, unordered(t_demo()));
     assert_eq!(view.subtree_sum(view.rank_of("B2")), 13);
 }
 
@@ -1126,22 +1128,42 @@ pub fn deviation_islands(engine: &dyn Engine) {
     assert_eq!(built.err(), Some(12));
 }
 
-/// Equal orders: the smaller row number comes first.
+/// Equal orders: the smaller numeral comes first, then the smaller row number.
 pub fn deviation_ties(engine: &dyn Engine) {
-    let rows: Vec<Row> = t_demo().iter().rev().map(|row| Row { order: 7, ..*row }).collect();
-    let view = View::default(engine, rows);
+    // By row number B2 would come before B1, and so on all over the tree.
+    let view = View::default(engine, unordered(t_demo()));
     view.check(
         &view.all(),
         "RANK NODE_ID
          1 A1
-         2 B2
-         3 C4
-         4 D3
-         5 C3
-         6 D2
+         2 B1
+         3 C1
+         4 C2
+         5 B2
+         6 C3
          7 D1
-         8 B1
-         9 C2
-         10 C1",
+         8 D2
+         9 C4
+         10 D3",
     );
+
+    // B1 below A1 twice: amount 5 was entered before amount 2, and B2 before both.
+    let row = |parent, node, amount| Row::new(numeral(parent), numeral(node), 7, amount);
+    let rows = vec![row("A1", "B2", 4), row("A1", "B1", 5), row("A1", "B1", 2), row("-", "A1", 1)];
+    let view = View::default(engine, rows);
+    view.check(
+        &view.all(),
+        "RANK NODE_ID AMOUNT
+         1 A1 1
+         2 B1 5
+         3 B1 2
+         4 B2 4",
+    );
+
+    // The last start row by numeral, B2, adopts; by row number it is B1.
+    let start = [numeral("B1"), numeral("B2")];
+    let rows = unordered(t_demo());
+    let view = View::new(engine, rows, code(2, 0, 0), None, Start::Numerals(&start));
+    let adopter = view.image.body(view.rank_of("A1")).parent;
+    assert_eq!(view.id_of(adopter), "B2");
 }

@@ -8,7 +8,7 @@
 //! * Orphaned cycles: the guide adds an edge to make a root or an adopted child
 //!   of them; the paper leaves such rows over (`deviation_islands`).
 //! * Siblings of equal order: the guide leaves their order open; the paper takes
-//!   the smaller row number (`deviation_ties`).
+//!   the smaller numeral, then the smaller row number (`deviation_ties`).
 //! * Start conditions: the guide takes any SQL condition; the paper takes parent
 //!   0 or a list of numerals. A condition on another column is expressed by
 //!   giving the rows that meet it parent 0.
@@ -94,77 +94,86 @@ impl Image {
     }
 }
 
-/// Makes one test of each example, run through the engine.
-#[macro_export]
-macro_rules! run_examples {
-    ($engine:expr) => {
-        $crate::run_examples! { @ $engine;
-            s3_1_all_attributes
-            s3_1_depth_2
-            s3_1_orphan_root
-            s3_1_orphan_adopt
-            s3_1_reversed_source
-            s3_1_multiparent_error
-            s3_1_multiparent_leaves
-            s3_1_multiparent_leaves_error
-            s3_1_multiparent
-            s3_1_cycle_error
-            s3_1_cycle_breakup
-            s5_1_h_demo
-            s5_1_subtree_b2
-            s5_2_distance_window
-            s5_2_two_start_nodes
-            s5_2_subordinate_leaves
-            s5_2_in_subtree
-            s5_3_ancestors_of_c4
-            s5_3_grandparents
-            s5_3_in_subtree
-            s5_4_siblings_of_c4
-            s5_4_in_subtree
-            s5_5_descendants_aggregate
-            s5_5_by_descendants
-            s5_6_ancestors_aggregate
-            s5_7_subtree
-            s5_7_children
-            s5_7_leaves
-            s5_7_level_members
-            s5_7_parents
-            s5_7_roots
-            s5_7_first_and_previous_sibling
-            s5_7_next_and_last_sibling
-            s5_7_following_nodes
-            s5_7_preceding_nodes
-            s8_1_is_leaf_and_is_root
-            s8_1_drill_state
-            s8_1_postorder_rank
-            s8_1_path
-            s8_1_path_by_two_hierarchies
-            s8_1_root
-            s8_1_following_node
-            s8_2_parametrized
-            s8_3_orphan_collector
-            s8_3_cycle_reconstruction
-            s8_4_limited_query
-            s8_4_partial_tree
-            s8_5_multiplied_nodes
-            s8_5_number_of_roots
-            s8_5_top_level_orphans
-            s8_6_composite_identifiers
-            s8_7_connectivity
-            s8_8_nearest_common_ancestor
-            s8_9_synthetic_data
-            s8_11_drill_down
-            s8_12_graphviz
-            deviation_islands
-            deviation_ties
+/// An example, run through an engine; it panics where the engine gives another table.
+pub type Example = fn(&dyn Engine);
+
+macro_rules! list_examples {
+    ($($name:ident)*) => {
+        /// All examples with their names.
+        pub const EXAMPLES: &[(&str, Example)] = &[$((stringify!($name), examples::$name)),*];
+
+        /// Makes one test of each example, run through the engine.
+        #[macro_export]
+        macro_rules! run_examples {
+            ($engine:expr) => {
+                $(
+                    #[test]
+                    fn $name() {
+                        $crate::examples::$name(&$engine);
+                    }
+                )*
+            };
         }
     };
-    (@ $engine:expr; $($name:ident)*) => {
-        $(
-            #[test]
-            fn $name() {
-                $crate::examples::$name(&$engine);
-            }
-        )*
-    };
+}
+
+list_examples! {
+    s3_1_all_attributes
+    s3_1_depth_2
+    s3_1_orphan_root
+    s3_1_orphan_adopt
+    s3_1_reversed_source
+    s3_1_multiparent_error
+    s3_1_multiparent_leaves
+    s3_1_multiparent_leaves_error
+    s3_1_multiparent
+    s3_1_cycle_error
+    s3_1_cycle_breakup
+    s5_1_h_demo
+    s5_1_subtree_b2
+    s5_2_distance_window
+    s5_2_two_start_nodes
+    s5_2_subordinate_leaves
+    s5_2_in_subtree
+    s5_3_ancestors_of_c4
+    s5_3_grandparents
+    s5_3_in_subtree
+    s5_4_siblings_of_c4
+    s5_4_in_subtree
+    s5_5_descendants_aggregate
+    s5_5_by_descendants
+    s5_6_ancestors_aggregate
+    s5_7_subtree
+    s5_7_children
+    s5_7_leaves
+    s5_7_level_members
+    s5_7_parents
+    s5_7_roots
+    s5_7_first_and_previous_sibling
+    s5_7_next_and_last_sibling
+    s5_7_following_nodes
+    s5_7_preceding_nodes
+    s8_1_is_leaf_and_is_root
+    s8_1_drill_state
+    s8_1_postorder_rank
+    s8_1_path
+    s8_1_path_by_two_hierarchies
+    s8_1_root
+    s8_1_following_node
+    s8_2_parametrized
+    s8_3_orphan_collector
+    s8_3_cycle_reconstruction
+    s8_4_limited_query
+    s8_4_partial_tree
+    s8_5_multiplied_nodes
+    s8_5_number_of_roots
+    s8_5_top_level_orphans
+    s8_6_composite_identifiers
+    s8_7_connectivity
+    s8_8_nearest_common_ancestor
+    s8_9_synthetic_data
+    s8_11_drill_down
+    s8_12_graphviz
+    deviation_islands
+    deviation_ties
 }

@@ -2,6 +2,9 @@
 //!
 //! A node id of two characters becomes the numeral made of its two ASCII bytes,
 //! so that numerals sort as the ids do. A missing parent is 0.
+//!
+//! `SIBLING ORDER BY ord` puts ord in the order. By `SIBLING ORDER BY node_id`, and
+//! without such a clause, all rows have the same order and the numeral decides.
 
 use reference::Row;
 
@@ -87,13 +90,19 @@ pub fn t_demo() -> Vec<Row> {
         .collect()
 }
 
+/// The same rows, all with one order; entered last to first, so that in every tie
+/// the numeral decides against the row numbers.
+pub fn unordered(rows: Vec<Row>) -> Vec<Row> {
+    rows.into_iter().rev().map(|row| Row { order: 0, ..row }).collect()
+}
+
 /// The rows of T_DEMO_ERR in the given trees, siblings ordered by node id.
 pub fn t_demo_err(trees: &[u32]) -> Vec<Row> {
-    T_DEMO_ERR
+    let rows = T_DEMO_ERR
         .iter()
         .filter(|(_, _, tree)| trees.contains(tree))
-        .map(|&(parent, node, _)| Row::new(numeral(parent), numeral(node), numeral(node), 0))
-        .collect()
+        .map(|&(parent, node, _)| Row::new(numeral(parent), numeral(node), 0, 0));
+    unordered(rows.collect())
 }
 
 /// T_DEMO with a measure of the joined facts of each node as minutes.
@@ -118,9 +127,10 @@ pub fn t_demo_composite() -> Vec<Row> {
         .collect()
 }
 
-/// The source of section 8.9: nodes 1 to 100, four children to a node.
+/// The source of section 8.9: nodes 1 to 100, four children to a node, siblings
+/// ordered by node id.
 pub fn synthetic() -> Vec<Row> {
-    (1..=100)
-        .map(|node| Row::new(if node <= 4 { 0 } else { (node - 1) / 4 }, node, node, 0))
-        .collect()
+    let rows =
+        (1..=100).map(|node| Row::new(if node <= 4 { 0 } else { (node - 1) / 4 }, node, 0, 0));
+    unordered(rows.collect())
 }

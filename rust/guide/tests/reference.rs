@@ -1,9 +1,15 @@
 //! The guide's examples through the reference.
 
-use guide::{Engine, Image};
+use generate::ties::{ties, Tie};
+use guide::{Engine, Image, EXAMPLES};
 use reference::*;
+use std::cell::RefCell;
 
-struct Reference;
+/// The reference, and the ties of all that it has built.
+#[derive(Default)]
+struct Reference {
+    ties: RefCell<Vec<Tie>>,
+}
 
 const NODES: usize = 1_000;
 
@@ -28,6 +34,7 @@ impl Engine for Reference {
         let built = build(rows, code, depth, start, &mut index, &mut totals);
         of(built.refusal)?;
         assert_eq!(built.nodes, index[0]);
+        self.ties.borrow_mut().extend(ties(rows, &index));
         Ok(Image { index, totals, left: built.left })
     }
 
@@ -88,7 +95,7 @@ impl Engine for Reference {
     }
 }
 
-guide::run_examples!(Reference);
+guide::run_examples!(Reference::default());
 
 /// Every example is in the list of `run_examples!`.
 #[test]
@@ -102,4 +109,33 @@ fn every_example_is_run() {
         count += 1;
     }
     assert_eq!(count, 58);
+}
+
+/// What the page's table of ties says of an example, the first two columns: how many neighbouring
+/// siblings have equal orders, and where the row number decides between some.
+fn line_of_ties(name: &str, ties: &[Tie]) -> String {
+    match ties.iter().filter(|tie| !tie.by_numeral()).count() {
+        0 => format!("| `{name}` | {} |", ties.len()),
+        by_row_number => format!("| `{name}` | {}, {by_row_number} by row number |", ties.len()),
+    }
+}
+
+/// The page lists all examples with ties.
+#[test]
+fn ties_are_those_of_the_page() {
+    let page = include_str!("../../../docs/TESTING.md");
+    let table = page.split("\n### Ties in the examples\n").nth(1).expect("a section of ties");
+    let table = table.split("\n### ").next().unwrap();
+    let mut listed = table.lines().filter(|line| line.starts_with("| `"));
+    for (name, example) in EXAMPLES {
+        let engine = Reference::default();
+        example(&engine);
+        let ties = engine.ties.into_inner();
+        if !ties.is_empty() {
+            let line = line_of_ties(name, &ties);
+            let listed = listed.next().unwrap_or("no more lines");
+            assert!(listed.starts_with(&line), "{line} is on the page as {listed}");
+        }
+    }
+    assert_eq!(listed.next(), None);
 }
