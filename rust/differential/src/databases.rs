@@ -48,10 +48,11 @@ impl Database {
         );
         for (place, row) in rows.iter().enumerate() {
             sql += &format!(
-                "INSERT INTO part VALUES ({}, {}, '{:010}.{:04}/', '/{}/', {});\n",
+                "INSERT INTO part VALUES ({}, {}, '{:010}.{:010}.{:04}/', '/{}/', {});\n",
                 row.parent,
                 row.numeral,
                 row.order,
+                row.numeral,
                 place + 1,
                 row.numeral,
                 row.minutes

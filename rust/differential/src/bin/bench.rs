@@ -37,6 +37,11 @@ fn orphaned_tree() -> Vec<Row> {
     rows
 }
 
+/// The tree with equal orders, entered last to first: numerals decide, against all row numbers.
+fn tied_tree() -> Vec<Row> {
+    tree().into_iter().rev().map(|row| Row { order: 1, ..row }).collect()
+}
+
 fn chain() -> Vec<Row> {
     (1..=1_024).map(|number| Row::new(number - 1, number, 1, 1)).collect()
 }
@@ -295,6 +300,7 @@ fn main() {
     let tree_time = builds("build, tree", &tree(), 0, 20);
     builds("build, tree, orphans as roots", &tree(), 3, 20);
     builds("build, tree of orphans", &orphaned_tree(), 3, 20);
+    builds("build, tree, equal orders", &tied_tree(), 0, 20);
     builds("build, chain", &chain(), 0, 20);
     builds("build, leaf roots", &leaves(), 0, 20);
     builds("build, cyclic", &cyclic(), 0, 20);
