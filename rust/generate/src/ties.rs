@@ -77,7 +77,8 @@ fn another_adopter(rows: &[Row], index: &[u32]) -> bool {
     adopter.is_some_and(|body| Some(body.row) != last)
 }
 
-/// What ties come to in a build, by name.
+/// What ties come to in a build, by name. Where the numeral decides, row numbers would decide
+/// otherwise; where the row number decides, order and numeral are equal.
 pub const FACTS: [&str; 10] = [
     "numeral decides among start rows",
     "numeral decides among children",
