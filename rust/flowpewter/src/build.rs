@@ -84,7 +84,8 @@ pub struct Built {
     pub left: u32,
 }
 
-/// Builds the index of a board and its running totals into the two slices; words beyond stay.
+/// Builds the index of a board and its running totals into the two slices; words beyond stay. A node comes before the
+/// nodes below it, and siblings by their order, then by their numeral, then by their row number.
 /// Refused with 1 or 6 to 12, and then both slices are zeroed.
 ///
 /// ```
