@@ -10,20 +10,25 @@ pub enum Among {
     TopOrphans,
 }
 
-/// Two siblings of equal order, one listed right behind the other, by row number.
+/// Two siblings of equal order, the second listed right behind the first.
 #[derive(Clone, Copy, Debug, PartialEq, Eq)]
 pub struct Tie {
     pub among: Among,
     /// Numeral of the node they are below, 0 for none.
     pub below: u32,
-    pub first: u32,
-    pub second: u32,
+    pub first: Body,
+    pub second: Body,
 }
 
 impl Tie {
     /// Whether the numeral decides, and the row number would decide otherwise.
-    pub fn by_numeral(&self) -> bool {
-        self.first > self.second
+    pub fn numeral_decides(&self) -> bool {
+        self.first.row > self.second.row
+    }
+
+    /// Whether the row number decides, as the numerals are equal too.
+    pub fn row_number_decides(&self) -> bool {
+        self.first.numeral == self.second.numeral
     }
 }
 
@@ -59,8 +64,8 @@ pub fn ties(rows: &[Row], index: &[u32]) -> Vec<Tie> {
             found.push(Tie {
                 among: among(&bodies, body),
                 below: above(&bodies, body).map_or(0, |parent| parent.numeral),
-                first: body.row,
-                second: next.row,
+                first: *body,
+                second: *next,
             });
         }
     }
@@ -70,15 +75,14 @@ pub fn ties(rows: &[Row], index: &[u32]) -> Vec<Tie> {
 /// Whether orphans were adopted, by another start row than if equal orders went by row number.
 fn another_adopter(rows: &[Row], index: &[u32]) -> bool {
     let bodies = bodies(index);
-    let adopted = |body: &&Body| body.orphan && among(&bodies, body) == Among::TopOrphans;
-    let adopter = bodies.iter().find(adopted).and_then(|body| above(&bodies, body));
+    let top_orphan = bodies.iter().find(|body| among(&bodies, body) == Among::TopOrphans);
+    let adopter = top_orphan.and_then(|body| above(&bodies, body));
     let start_rows = bodies.iter().filter(|body| body.parent == 0 && !body.orphan);
     let last = start_rows.map(|body| body.row).max_by_key(|k| (row(rows, *k).order, *k));
     adopter.is_some_and(|body| Some(body.row) != last)
 }
 
-/// What ties come to in a build, by name. Where the numeral decides, row numbers would decide
-/// otherwise; where the row number decides, order and numeral are equal.
+/// What ties come to in a build, by name.
 pub const FACTS: [&str; 10] = [
     "numeral decides among start rows",
     "numeral decides among children",
@@ -96,20 +100,19 @@ pub const FACTS: [&str; 10] = [
 pub fn facts(rows: &[Row], index: &[u32]) -> [bool; FACTS.len()] {
     let ties = ties(rows, index);
     let any = |test: &dyn Fn(&Tie) -> bool| ties.iter().any(test);
-    let numeral = |among: Among| any(&|tie| tie.among == among && tie.by_numeral());
-    let same_numeral = |tie: &Tie| row(rows, tie.first).numeral == row(rows, tie.second).numeral;
-    let row_number = |among: Among| any(&|tie| tie.among == among && same_numeral(tie));
+    let numeral = |among: Among| any(&|tie| tie.among == among && tie.numeral_decides());
+    let row_number = |among: Among| any(&|tie| tie.among == among && tie.row_number_decides());
     let shared = |numeral: u32| rows.iter().filter(|row| row.numeral == numeral).count() > 1;
     [
         numeral(Among::StartRows),
         numeral(Among::Children),
         numeral(Among::TopOrphans),
-        any(&|tie| tie.among == Among::Children && tie.by_numeral() && shared(tie.below)),
+        any(&|tie| tie.among == Among::Children && tie.numeral_decides() && shared(tie.below)),
         row_number(Among::StartRows),
         row_number(Among::Children),
         row_number(Among::TopOrphans),
-        any(&|tie| row(rows, tie.first) == row(rows, tie.second)),
-        any(&Tie::by_numeral),
+        any(&|tie| row(rows, tie.first.row) == row(rows, tie.second.row)),
+        any(&Tie::numeral_decides),
         another_adopter(rows, index),
     ]
 }

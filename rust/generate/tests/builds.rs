@@ -218,7 +218,7 @@ fn ties_are_found(rows: &[Row], nodes: &[Node], index: &[u32]) {
         let keys: Vec<_> = node.rows.iter().map(|k| (rows[k - 1].order, *k)).collect();
         (node.orphan, keys)
     });
-    let found = ties::ties(rows, index).iter().any(ties::Tie::by_numeral);
+    let found = ties::ties(rows, index).iter().any(ties::Tie::numeral_decides);
     assert_eq!(found, by_row_number != nodes, "{rows:?}");
 }
 

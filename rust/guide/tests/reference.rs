@@ -112,11 +112,15 @@ fn every_example_is_run() {
 }
 
 /// What the page's table of ties says of an example, the first two columns: how many neighbouring
-/// siblings have equal orders, and where the row number decides between some.
+/// siblings have equal orders, and of how many the row number decides. All others are decided by
+/// the numeral, against the row numbers.
 fn line_of_ties(name: &str, ties: &[Tie]) -> String {
-    match ties.iter().filter(|tie| !tie.by_numeral()).count() {
-        0 => format!("| `{name}` | {} |", ties.len()),
-        by_row_number => format!("| `{name}` | {}, {by_row_number} by row number |", ties.len()),
+    let by_row_number = ties.iter().filter(|tie| tie.row_number_decides()).count();
+    let by_numeral = ties.iter().filter(|tie| tie.numeral_decides()).count();
+    assert_eq!(by_numeral + by_row_number, ties.len(), "{name}");
+    match by_row_number {
+        0 => format!("| `{name}` | {by_numeral} |"),
+        _ => format!("| `{name}` | {}, {by_row_number} by row number |", ties.len()),
     }
 }
 
