@@ -5,6 +5,9 @@
 //! same cases. The reference is used only to learn how long a slice a case
 //! needs, to obtain built indexes to damage, and to follow the rows that the
 //! entries of a journal lead to.
+//!
+//! [`ties`] tells which siblings of a built index have equal orders, so that tests
+//! can count what their cases reach.
 #![forbid(unsafe_code)]
 
 pub mod boards;
