@@ -3,8 +3,9 @@
  * A board holds rows, each with a numeral and the numeral of its parent. A path is a chain of rows from a start row
  * down, each under the numeral of the row before; it is a node of its last row. So a part that is shown in three places
  * is three nodes, each with all that is below it. A build writes the nodes into an index, in the order of their ranks,
- * which begin at 1: a node comes before the nodes below it, and siblings by their order, then by their row number. The
- * other calls look into such an index by rank. docs/INDEX-FORMAT.md has an example, word by word.
+ * which begin at 1: a node comes before the nodes below it, and siblings by their order, then by their numeral, then by
+ * their row number, the smaller first. The other calls look into such an index by rank. docs/INDEX-FORMAT.md has an
+ * example, word by word.
  *
  * Link with target/staticlib/libflowpewter.a, which `rt staticlib flowpewter` makes. It is compiled for x86-64 Linux
  * (System V calls, any x86-64 processor, position-independent) and for nothing else; of the C library it takes memcpy,
