@@ -39,6 +39,15 @@ pub fn cell(table: &[u32], p: u32, k: usize) -> u32
     0
 }
 
+// The word at position p of a column, for loops that know where they are.
+pub fn word(table: &[u32], p: u32, k: usize) -> u32
+    requires { ⌜ (k < 8) × (p < length (column k (now table))) ⌝ }
+    ensures { λ r. ⌜ r ≡ getD (column k (now (table .entry))) p 0 ⌝ }
+{
+    let q = p as usize;
+    table[8 * q + k]
+}
+
 // Stores a word at position p of a column.
 pub fn store(table: &mut [u32], p: u32, k: usize, v: u32)
     requires { ⌜ (k < 8) × (p < length (column k (now table))) ⌝ }
