@@ -3,9 +3,9 @@ use mathlib.Core.Path.{_≡_}
 use mathlib.Core.Logic.{_≢_}
 use mathlib.Core.Bool.{Bool}
 use mathlib.Core.List.{List, map}
-use Prim.Native.Nat.{ℕ, _%_, _<_, _≤_}
+use Prim.Native.Nat.{ℕ, _<_, _≤_}
 use lib.Dec.{eqb}
-use lib.ListN.{length, getD}
+use lib.ListN.{length}
 use Rattle.lists.specs.Choice.{bit}
 use Rattle.rows.specs.declared.Row.{Row}
 use Rattle.paths.specs.Rows.{row, num, RowOf}
@@ -48,22 +48,25 @@ pub record OthersKept (k : ℕ) (t t′ : List ℕ) : Type 0 where
   pub long : length t′ ≡ length t
   pub others : (j : ℕ) → j < 8 → j ≢ k → column j t′ ≡ column j t
 
--- each key's position is one of n
-abbrev pub KeysWithin : (K : List ℕ) (n : ℕ) → Type 0
-KeysWithin K n = (i : ℕ) → i < length K → getD K i 0 % 1024 < n
+-- the sorted keys of a table's parents and numerals
+pub record Keys (t parentKeys numeralKeys : List ℕ) : Type 0 where
+  pub few : length (rowColumn t) ≤ 1024
+  pub parents-are : parentKeys ≡ keysOf (parentColumn t)
+  pub numerals-are : numeralKeys ≡ keysOf (numeralColumn t)
 
--- the sorted keys of the numbers F and of the numbers Q, of which there are n
-pub record KeysOfBoth (F Q keys asked : List ℕ) (n : ℕ) : Type 0 where
-  pub few : length F ≤ 1024
-  pub asked-few : length Q ≤ 1024
-  pub asked-long : length Q ≡ n
-  pub keys-are : keys ≡ keysOf F
-  pub asked-are : asked ≡ keysOf Q
+-- each row has its first child and its class
+pub record ChildrenLinked (t t′ : List ℕ) : Type 0 where
+  pub long : length t′ ≡ length t
+  pub others : (j : ℕ) → j < 8 → j ≢ 3 → j ≢ 5 → column j t′ ≡ column j t
+  pub child-is : childColumn t′ ≡ firsts (parentColumn t) (numeralColumn t)
+  pub class-is : classColumn t′ ≡ firsts (numeralColumn t) (numeralColumn t)
 
--- column k holds, for each number of Q, its first position in F, where the keys are those of F and Q
-pub record FirstsFilled (keys asked : List ℕ) (k : ℕ) (t t′ : List ℕ) : Type 0 where
-  pub kept : OthersKept k t t′
-  pub filled : (F Q : List ℕ) → KeysOfBoth F Q keys asked (length (column k t)) → column k t′ ≡ firsts F Q
+-- each row has its next sibling and its parent's position
+pub record ParentsLinked (t t′ : List ℕ) : Type 0 where
+  pub long : length t′ ≡ length t
+  pub others : (j : ℕ) → j < 8 → j ≢ 4 → j ≢ 6 → column j t′ ≡ column j t
+  pub next-is : nextColumn t′ ≡ nexts (parentColumn t)
+  pub parent-position-is : parentPositionColumn t′ ≡ firsts (numeralColumn t) (parentColumn t)
 
 -- the links between the rows stand, and the rows are as they were
 pub record Links (t t′ : List ℕ) : Type 0 where
