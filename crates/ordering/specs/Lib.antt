@@ -1,4 +1,4 @@
 pub mod OrderingLayer
 pub mod SiblingOrderLaws
-pub mod RankLaws
+pub mod OrdinalLaws
 pub mod OrderedLaws

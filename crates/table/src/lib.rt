@@ -63,12 +63,6 @@ pub fn row(table: &[u32], p: u32) -> u32
     cell(table, p, ROW)
 }
 
-pub fn parent(table: &[u32], p: u32) -> u32
-    ensures { λ r. ⌜ r ≡ getD (parentColumn (now (table .entry))) p 0 ⌝ }
-{
-    cell(table, p, PARENT)
-}
-
 pub fn numeral(table: &[u32], p: u32) -> u32
     ensures { λ r. ⌜ r ≡ getD (numeralColumn (now (table .entry))) p 0 ⌝ }
 {
