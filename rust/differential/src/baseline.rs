@@ -1,7 +1,8 @@
 //! The same jobs in plain Rust, written for speed: what the library is measured against.
 //!
 //! Links and an explicit stack: rows of one numeral are a class, the children of a class are a range of the rows in
-//! sibling order, and a mark per class tells whether it stands on the path. Nothing is allocated.
+//! sibling order, and a mark per class tells whether it stands on the path. Which numerals are on rings is found for all
+//! at once, by strongly connected components. Nothing is allocated.
 
 use flowpewter::sys::{Built, Edited, Listed};
 use flowpewter::{
@@ -218,6 +219,15 @@ struct Level {
     rank: u32,
 }
 
+/// What a node ends with: a row, or an entry, whose number is 0.
+#[derive(Clone, Copy)]
+struct End {
+    numeral: u32,
+    number: u32,
+    minutes: i32,
+    class: u16,
+}
+
 struct Walk<'a> {
     rows: &'a [Row],
     links: &'a Links,
@@ -234,34 +244,39 @@ struct Walk<'a> {
 }
 
 impl Walk<'_> {
+    #[inline(always)]
+    fn row(&self, place: usize) -> End {
+        let Row { numeral, minutes, .. } = self.rows[place];
+        End { numeral, number: place as u32 + 1, minutes, class: self.links.class_of[place] }
+    }
+
     /// Writes all words of a node but its size. None when there is no room.
     #[inline(always)]
-    fn write(&mut self, place: usize, parent: u32, root: u32, last: u32) -> Option<u32> {
+    fn write(&mut self, end: End, parent: u32, root: u32, last: u32) -> Option<u32> {
         if self.count == self.capacity {
             return None;
         }
-        let row = &self.rows[place];
         let at = BODY * self.count;
         self.count += 1;
         let rank = self.count as u32;
         let root = if root == 0 { rank } else { root };
         let body = &mut self.bodies[at..at + BODY];
-        body[0] = row.numeral;
-        body[1] = place as u32 + 1;
+        body[0] = end.numeral;
+        body[1] = end.number;
         body[2] = 1;
         body[3] = parent;
         body[4] = root;
         body[5] = last;
         self.check = self
             .check
-            .wrapping_add(row.numeral)
-            .wrapping_add(place as u32 + 1)
+            .wrapping_add(end.numeral)
+            .wrapping_add(end.number)
             .wrapping_add(parent)
             .wrapping_add(root)
             .wrapping_add(last);
-        self.total += row.minutes as i64;
+        self.total += end.minutes as i64;
         self.totals[self.count] = self.total;
-        self.shared[self.links.class_of[place] as usize] += 1;
+        self.shared[end.class as usize] += 1;
         Some(rank)
     }
 
@@ -272,24 +287,36 @@ impl Walk<'_> {
         self.check = self.check.wrapping_add(size);
     }
 
-    /// All paths from one first row. `base` is the level above, `within` the rows that paths may have (all if none).
+    /// All paths from one first row.
+    #[inline(always)]
     fn tree<const ORPHAN: bool>(
         &mut self,
         first: usize,
         parent: u32,
-        root: u32,
+        base: u32,
+        limit: usize,
+        within: &[bool; MAX_ROWS],
+        stack: &mut [Level; MAX_ROWS + 1],
+    ) -> Option<()> {
+        self.reached[first] = true;
+        self.paths::<ORPHAN>(self.row(first), parent, base, limit, within, stack)
+    }
+
+    /// All paths that begin alike. `base` is the level above, `within` the rows that paths may have (all if none).
+    fn paths<const ORPHAN: bool>(
+        &mut self,
+        first: End,
+        parent: u32,
         base: u32,
         limit: usize,
         within: &[bool; MAX_ROWS],
         stack: &mut [Level; MAX_ROWS + 1],
     ) -> Option<()> {
         let flag = if ORPHAN { ORPHAN_BIT } else { 0 };
-        let rank = self.write(first, parent, root, (base + 1) | flag)?;
-        let root = if root == 0 { rank } else { root };
-        self.reached[first] = true;
-        let class = self.links.class_of[first];
-        self.marks[class as usize] = true;
-        stack[0] = self.level(class, rank, limit > 1);
+        let rank = self.write(first, parent, parent, (base + 1) | flag)?;
+        let root = if parent == 0 { rank } else { parent };
+        self.marks[first.class as usize] = true;
+        stack[0] = self.level(first.class, rank, limit > 1);
         let mut depth = 1;
         while depth > 0 {
             let top = &mut stack[depth - 1];
@@ -310,7 +337,7 @@ impl Walk<'_> {
             let class = self.links.class_of[place];
             let closing = self.marks[class as usize];
             let word = (base + 1 + depth as u32) | flag | (closing as u32 * CLOSING_BIT);
-            let rank = self.write(place, above, root, word)?;
+            let rank = self.write(self.row(place), above, root, word)?;
             if closing {
                 self.closing = true;
                 self.check = self.check.wrapping_add(1);
@@ -335,6 +362,107 @@ impl Walk<'_> {
         let end = if open { self.links.begin[class as usize + 1] } else { next };
         Level { next, end, class, rank }
     }
+
+    /// All paths from entries, `within` being the rows of islands.
+    #[inline(never)]
+    fn islands(
+        &mut self,
+        parent: u32,
+        base: u32,
+        classes: usize,
+        within: &mut [bool; MAX_ROWS],
+        stack: &mut [Level; MAX_ROWS + 1],
+    ) -> Option<()> {
+        let mut ringed = on_rings(self.links, classes, within, stack);
+        for place in 0..self.rows.len() {
+            let row = self.row(place);
+            if !within[place] || !ringed[row.class as usize] {
+                continue;
+            }
+            let entry = End { number: 0, minutes: 0, ..row };
+            let before = self.count;
+            self.paths::<true>(entry, parent, base, MAX_ROWS + 1, within, stack)?;
+            // All rows below a numeral leave together, and with them each ring that it is on.
+            for body in self.bodies[BODY * (before + 1)..BODY * self.count].chunks_exact(BODY) {
+                let place = body[1] as usize - 1;
+                within[place] = false;
+                ringed[self.links.class_of[place] as usize] = false;
+            }
+        }
+        Some(())
+    }
+}
+
+/// Whether each class is on a ring of the rows of `within`: it has another class in its strongly connected component,
+/// or a row below itself. Tarjan's low links, in time linear in the rows.
+fn on_rings(
+    links: &Links,
+    classes: usize,
+    within: &[bool; MAX_ROWS],
+    stack: &mut [Level; MAX_ROWS + 1],
+) -> [bool; MAX_ROWS] {
+    /// In place of the number of a class whose component is complete.
+    const COMPLETE: u16 = u16::MAX;
+    let mut ringed = [false; MAX_ROWS];
+    // In the order met, from 1; 0 for not met.
+    let mut number = [0; MAX_ROWS];
+    let mut low = [0; MAX_ROWS];
+    // Classes that are met and whose component isn't complete.
+    let mut open = [0; MAX_ROWS];
+    let (mut opened, mut met) = (0, 0);
+    for first in 0..classes {
+        if number[first] != 0 {
+            continue;
+        }
+        let mut depth = 0;
+        let mut next = Some(first);
+        loop {
+            if let Some(class) = next.take() {
+                met += 1;
+                (number[class], low[class]) = (met, met);
+                open[opened] = class as u16;
+                opened += 1;
+                let (next, end) = (links.begin[class], links.begin[class + 1]);
+                stack[depth] = Level { next, end, class: class as u16, rank: 0 };
+                depth += 1;
+            }
+            let top = &mut stack[depth - 1];
+            let class = top.class as usize;
+            if top.next < top.end {
+                let place = links.sorted[top.next as usize] as usize;
+                top.next += 1;
+                if within[place] {
+                    let below = links.class_of[place] as usize;
+                    if number[below] == 0 {
+                        next = Some(below);
+                    } else {
+                        low[class] = low[class].min(number[below]);
+                        ringed[class] |= below == class;
+                    }
+                }
+                continue;
+            }
+            if low[class] == number[class] {
+                let alone = open[opened - 1] as usize == class;
+                loop {
+                    opened -= 1;
+                    let last = open[opened] as usize;
+                    number[last] = COMPLETE;
+                    ringed[last] |= !alone;
+                    if last == class {
+                        break;
+                    }
+                }
+            }
+            depth -= 1;
+            if depth == 0 {
+                break;
+            }
+            let above = stack[depth - 1].class as usize;
+            low[above] = low[above].min(low[class]);
+        }
+    }
+    ringed
 }
 
 fn refuse(refusal: u32, index: &mut [u32], totals: &mut [i64]) -> Built {
@@ -397,7 +525,7 @@ fn attempt(
     }
     let siblings = &links.siblings[..rows.len()];
     let last_start = siblings.iter().rev().find(|place| starts[**place as usize]);
-    if orphan == 2 && last_start.is_none() && links.parent_class[..rows.len()].contains(&NONE) {
+    if orphan == 2 && last_start.is_none() && !rows.is_empty() {
         return Err(8);
     }
     if index.len() < CONTENTS || totals.is_empty() {
@@ -433,7 +561,7 @@ fn attempt(
             let place = place as usize;
             if starts[place] {
                 last_root = walk.count as u32 + 1;
-                walk.tree::<false>(place, 0, 0, 0, limit, &starts, &mut stack).ok_or(9u32)?;
+                walk.tree::<false>(place, 0, 0, limit, &starts, &mut stack).ok_or(9u32)?;
             }
         }
     }
@@ -444,14 +572,20 @@ fn attempt(
             *within = !reached;
         }
         let adopter = if orphan == 2 { last_root } else { 0 };
+        let base = (orphan == 2) as u32;
         let before = walk.count;
         for &place in siblings {
             let place = place as usize;
             if within[place] && links.parent_class[place] == NONE {
-                let base = (orphan == 2) as u32;
-                walk.tree::<true>(place, adopter, adopter, base, MAX_ROWS + 1, &within, &mut stack)
+                walk.tree::<true>(place, adopter, base, MAX_ROWS + 1, &within, &mut stack)
                     .ok_or(9u32)?;
             }
+        }
+        for (within, reached) in within[..rows.len()].iter_mut().zip(&walk.reached) {
+            *within = !reached;
+        }
+        if within[..rows.len()].contains(&true) {
+            walk.islands(adopter, base, classes, &mut within, &mut stack).ok_or(9u32)?;
         }
         if adopter != 0 {
             let added = (walk.count - before) as u32;
@@ -464,7 +598,9 @@ fn attempt(
         return Err(10);
     }
     let shares = |body: &[u32]| {
-        let class = links.class_of[body[1] as usize - 1];
+        // A ring closes on its entry, so that each entry shares its numeral.
+        let Some(place) = body[1].checked_sub(1) else { return true };
+        let class = links.class_of[place as usize];
         walk.shared[class as usize] > 1 && (multi == 2 || body[2] > 1)
     };
     if multi != 0 && walk.bodies[..BODY * walk.count].chunks_exact(BODY).any(shares) {

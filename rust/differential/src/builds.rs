@@ -4,15 +4,15 @@ use crate::edits::board;
 use crate::tally::Tally;
 use crate::{baseline, navigation};
 use flowpewter::sys;
-use generate::builds::{large_case, start_of};
+use generate::builds::{large_case, large_island_case, start_of};
 use generate::{
-    build_case, build_case_of, holding, rows, ties, unsound_boards, BuildCase, NavigationCase,
-    Random, SHAPES,
+    build_case, build_case_of, holding, island_case, island_case_of, islands, rows, ties,
+    unsound_boards, BuildCase, NavigationCase, Random, SHAPES,
 };
-use reference::{build_board, Built};
+use reference::{build_board, Body, Built, Start};
 
-/// One build on both sides, and by the baseline that the library is measured against; counts what ties come to in it.
-/// Answers the case with its slices as they are afterwards.
+/// One build on both sides, and by the baseline that the library is measured against; counts what ties and islands come
+/// to in it. Answers the case with its slices as they are afterwards.
 pub fn compare(
     reference: &reference::Board,
     case: &BuildCase,
@@ -41,11 +41,10 @@ pub fn compare(
         tally.note("build_default", expected.refusal);
     }
     if expected.refusal == 0 {
-        for (name, fact) in ties::FACTS.into_iter().zip(ties::facts(&case.rows, &after.index)) {
-            if fact {
-                tally.reach(name);
-            }
-        }
+        tally.reach_all(ties::FACTS, ties::facts(&case.rows, &after.index));
+        tally.reach_all(islands::FACTS, islands::facts(case, &after.index));
+    } else {
+        tally.reach_all(islands::REFUSALS, islands::refusals(case, expected.refusal));
     }
     (expected, after)
 }
@@ -75,23 +74,61 @@ pub fn cases(random: &mut Random, tally: &mut Tally) {
     assert!(sys::index_check(&after.index));
     for _ in 0..2 {
         let rank = random.between(1, built.nodes.max(1) as usize) as u32;
-        let length = random.between(0, built.nodes as usize);
-        let case = NavigationCase {
-            index: after.index.clone(),
-            totals: after.totals.clone(),
-            rank,
-            lower: random.limit(),
-            upper: random.limit(),
-            list: random.noise(length),
-        };
-        navigation::compare(&case, tally);
+        navigate(random, &after, rank, tally);
     }
 }
 
-/// A random build of a board that edits have left.
-pub fn edited(random: &mut Random, reference: &reference::Board, tally: &mut Tally) {
-    let case = build_case_of(random, reference.held().to_vec());
+/// Every navigation call from one rank of what a build left.
+fn navigate(random: &mut Random, after: &BuildCase, rank: u32, tally: &mut Tally) {
+    let length = random.between(0, after.index[0] as usize);
+    let case = NavigationCase {
+        index: after.index.clone(),
+        totals: after.totals.clone(),
+        rank,
+        lower: random.limit(),
+        upper: random.limit(),
+        list: random.noise(length),
+    };
+    navigation::compare(&case, tally);
+}
+
+/// One build of rows with rings, and every navigation call from an entry, from a node below it and from the one that
+/// adopts it.
+pub fn islands(random: &mut Random, tally: &mut Tally) {
+    let case = island_case(random);
+    let reference = holding(random, &case.rows);
+    let (built, after) = compare(&reference, &case, tally);
+    if built.refusal != 0 {
+        return;
+    }
+    assert!(sys::index_check(&after.index));
+    let body = |rank: &u32| Body::read(&after.index, *rank as usize);
+    let entries: Vec<u32> = (1..=built.nodes).filter(|rank| body(rank).row == 0).collect();
+    if entries.is_empty() {
+        return;
+    }
+    let entry = random.pick(&entries);
+    let Body { parent, size, .. } = body(&entry);
+    navigate(random, &after, entry, tally);
+    let below = entry + random.between(1, size as usize - 1) as u32;
+    navigate(random, &after, below, tally);
+    if parent != 0 {
+        navigate(random, &after, parent, tally);
+    }
+}
+
+/// A random build of a board that edits have left, and where it has islands one more, under adopt or root mostly.
+/// Answers whether it has.
+pub fn edited(random: &mut Random, reference: &reference::Board, tally: &mut Tally) -> bool {
+    let rows = reference.held().to_vec();
+    let has_islands = islands::islands(&rows, Start::ParentZero).contains(&true);
+    let case = build_case_of(random, rows.clone());
     compare(reference, &case, tally);
+    if has_islands {
+        let case = island_case_of(random, rows);
+        compare(reference, &case, tally);
+    }
+    has_islands
 }
 
 /// Rows of one shape under every option code and some above, by both start rules.
@@ -132,15 +169,16 @@ pub fn unsound(random: &mut Random, tally: &mut Tally) {
     }
 }
 
-/// A build at the limit of nodes.
+/// Two builds at the limit of nodes, one of them with most of its nodes below entries.
 pub fn limits(random: &mut Random, nodes: usize, tally: &mut Tally) {
-    let case = large_case(random, nodes);
-    let reference = holding(random, &case.rows);
-    let (built, after) = compare(&reference, &case, tally);
-    if nodes > 65_535 {
-        assert_eq!(built.refusal, 9);
-    } else if built.refusal == 0 {
-        assert_eq!(built.nodes as usize, nodes);
-        assert!(sys::index_check(&after.index));
+    for case in [large_case(random, nodes), large_island_case(random, nodes)] {
+        let reference = holding(random, &case.rows);
+        let (built, after) = compare(&reference, &case, tally);
+        if nodes > 65_535 {
+            assert_eq!(built.refusal, 9);
+        } else if built.refusal == 0 {
+            assert_eq!(built.nodes as usize, nodes);
+            assert!(sys::index_check(&after.index));
+        }
     }
 }

@@ -118,14 +118,16 @@ impl Followed {
 }
 
 /// One list of calls from the empty board against the plain machine and the reference's board, then undone to the
-/// bottom and redone to the top; a build after each of the three.
+/// bottom and redone to the top; one build or two after each of the three.
 pub fn histories(random: &mut Random, kind: History, tally: &mut Tally) {
     let library = sys::empty();
     assert!(library == Board::EMPTY);
     let (reference, machine) = (reference::Board::EMPTY, Machine::new());
     let mut followed = Followed { library, reference, machine };
     followed.calls(&history(random, kind), tally);
-    builds::edited(random, &followed.reference, tally);
+    if builds::edited(random, &followed.reference, tally) {
+        tally.reach("history that ends in islands");
+    }
     followed.to_the_end(Call::Undo, "undo to the bottom", tally);
     builds::edited(random, &followed.reference, tally);
     followed.to_the_end(Call::Redo, "redo to the top", tally);

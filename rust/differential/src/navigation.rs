@@ -3,6 +3,7 @@
 use crate::tally::Tally;
 use flowpewter::sys;
 use generate::{index, navigation_case, NavigationCase, Random};
+use reference::Body;
 
 /// Every navigation call on one case.
 pub fn calls(random: &mut Random, tally: &mut Tally) {
@@ -16,6 +17,9 @@ pub fn compare(case: &NavigationCase, tally: &mut Tally) {
     let span = sys::span(index, rank);
     let expected = reference::span(index, rank);
     tally.note("span", expected.refusal);
+    if expected.refusal == 0 && Body::read(index, rank as usize).row == 0 {
+        tally.reach("navigation from row number 0");
+    }
     assert_eq!(span.refusal, expected.refusal, "{case:?}");
     assert_eq!(span.start..span.start + span.words, expected.words, "{case:?}");
 

@@ -1,4 +1,4 @@
-//! How often each call gave each refusal, and how often accepted builds reached a case.
+//! How often each call gave each refusal, and how often builds reached a case.
 
 use std::collections::BTreeMap;
 use std::fmt;
@@ -21,6 +21,13 @@ impl Tally {
 
     pub fn reach(&mut self, case: &'static str) {
         *self.reached.entry(case).or_default() += 1;
+    }
+
+    /// Counts the cases that are true.
+    pub fn reach_all<const N: usize>(&mut self, cases: [&'static str; N], reached: [bool; N]) {
+        for (case, _) in cases.into_iter().zip(reached).filter(|(_, reached)| *reached) {
+            self.reach(case);
+        }
     }
 
     /// Answers of the call with the refusal number.

@@ -2,7 +2,7 @@
 
 use differential::builds::{self, CODES};
 use differential::Tally;
-use generate::{ties, Random};
+use generate::{islands, ties, Random};
 
 #[test]
 fn builds_of_generated_rows() {
@@ -15,13 +15,29 @@ fn builds_of_generated_rows() {
     tally.expect("build", &[0, 6, 7, 8, 9, 10, 11, 12], 200);
     tally.expect("build_default", &[0, 9], 60);
     tally.expect_reached(&ties::FACTS, 40);
+    tally.expect_reached(&islands::FACTS, 10);
+    tally.expect_reached(&islands::REFUSALS, 10);
+}
+
+#[test]
+fn builds_of_islands() {
+    let mut random = Random::announced("islands", 65);
+    let mut tally = Tally::new();
+    for _ in 0..6_000 {
+        builds::islands(&mut random, &mut tally);
+    }
+    println!("{tally}");
+    tally.expect("build", &[0, 8, 9, 10, 11, 12], 50);
+    tally.expect_reached(&islands::FACTS, 60);
+    tally.expect_reached(&islands::REFUSALS, 60);
+    tally.expect_reached(&["navigation from row number 0"], 1_000);
 }
 
 #[test]
 fn every_code() {
     let mut random = Random::announced("codes", 62);
     let mut tally = Tally::new();
-    for _ in 0..400 {
+    for _ in 0..500 {
         builds::codes(&mut random, &mut tally);
     }
     println!("{tally}");

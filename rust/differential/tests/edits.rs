@@ -22,6 +22,8 @@ fn histories() {
     tally.expect("redo to the top", &[0, 17], 500);
     tally.expect("build", &[0, 6, 7, 8, 9, 10, 11, 12], 15);
     tally.expect_reached(&["another index by row number alone"], 40);
+    tally.expect_reached(&["history that ends in islands"], 60);
+    tally.expect_reached(&["entry under root", "entry under adopt", "two or more entries"], 40);
 }
 
 #[test]

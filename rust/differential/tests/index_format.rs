@@ -1,4 +1,4 @@
-//! The example of docs/INDEX-FORMAT.md.
+//! The two examples of docs/INDEX-FORMAT.md.
 
 use flowpewter::{
     build_with_code, index_check, index_len, subtree_sum, totals_len, Board, Refusal, Row, Start,
@@ -13,18 +13,29 @@ fn block(name: &str) -> Vec<i64> {
     text.split_whitespace().map(|word| word.parse().expect("a number")).collect()
 }
 
-#[test]
-fn index_format() -> Result<(), Refusal> {
+/// Builds an example of four nodes: its blocks' names begin with `prefix`, and the
+/// subtree sum of a rank is given in the text.
+fn compare(prefix: &str, rank: u32, sum: i64) -> Result<(), Refusal> {
     let mut board = Board::EMPTY;
-    for row in block("rows").chunks(4) {
+    for row in block(&format!("{prefix}rows")).chunks(4) {
         board.add(Row::new(row[0] as u32, row[1] as u32, row[2] as u32, row[3] as i32))?;
     }
     let mut index = [0; index_len(4)];
     let mut totals = [0; totals_len(4)];
     build_with_code(&board, 3, None, Start::ParentZero, &mut index, &mut totals)?;
-    assert_eq!(index.map(i64::from).to_vec(), block("index"));
-    assert_eq!(totals.to_vec(), block("totals"));
+    assert_eq!(index.map(i64::from).to_vec(), block(&format!("{prefix}index")));
+    assert_eq!(totals.to_vec(), block(&format!("{prefix}totals")));
     assert!(index_check(&index));
-    assert_eq!(subtree_sum(&index, &totals, 1)?, 10);
+    assert_eq!(subtree_sum(&index, &totals, rank)?, sum);
     Ok(())
+}
+
+#[test]
+fn index_format() -> Result<(), Refusal> {
+    compare("", 1, 10)
+}
+
+#[test]
+fn index_format_with_an_entry() -> Result<(), Refusal> {
+    compare("ring-", 2, 5)
 }

@@ -17,6 +17,7 @@ fn navigation_on_any_slices() {
     tally.expect("siblings", &[0, 13, 14, 16], 1_000);
     tally.expect("subtree_sum", &[0, 13, 14, 15], 1_000);
     tally.expect("path_sum", &[0, 13, 14, 15], 1_000);
+    tally.expect_reached(&["navigation from row number 0"], 500);
 }
 
 #[test]

@@ -6,6 +6,11 @@ use crate::refusal::Refusal;
 use crate::sys;
 
 /// What becomes of rows that no path from a start row reaches.
+///
+/// With [`Adopt`](Orphan::Adopt) and [`Root`](Orphan::Root) every row ends a node. Rows that those without a parent among
+/// the rows don't lead to are islands: rings, and what hangs from them. They get entries, behind all other orphans: a
+/// node without a row, of row number 0 and 0 minutes, with the numeral of the lowest row whose numeral is on a ring of
+/// the rows that are left, and what is below it; then the next, until no row is left.
 #[derive(Clone, Copy, Debug, PartialEq, Eq, Hash, Default)]
 pub enum Orphan {
     /// They are left over.
@@ -13,9 +18,11 @@ pub enum Orphan {
     Ignore = 0,
     /// The build is refused.
     Error = 1,
-    /// Those without a parent among the rows hang from the last start row, and what is below them follows.
+    /// Those without a parent among the rows hang from the last start row, and what is below them follows; then entries
+    /// of islands do.
     Adopt = 2,
-    /// Those without a parent among the rows are roots after all others, and what is below them follows.
+    /// Those without a parent among the rows are roots after all others, and what is below them follows; then entries of
+    /// islands are.
     Root = 3,
 }
 
@@ -80,7 +87,9 @@ impl Options<'_> {
 /// The number of nodes, and the number of rows that end no node.
 #[derive(Clone, Copy, Debug, PartialEq, Eq, Hash)]
 pub struct Built {
+    /// Entries of islands among them.
     pub nodes: u32,
+    /// 0 with [`Orphan::Adopt`] and [`Orphan::Root`].
     pub left: u32,
 }
 
@@ -103,6 +112,34 @@ pub struct Built {
 /// let refused = build(&board, &Options::default(), &mut index[..19], &mut totals);
 /// assert_eq!(refused, Err(Refusal::TooManyNodes));
 /// assert_eq!(totals, [0; 3]);
+/// # Ok::<(), Refusal>(())
+/// ```
+///
+/// A gear train that was entered as a ring, with no way in, gets an entry when orphans are roots:
+///
+/// ```
+/// use flowpewter::{
+///     bodies, build, index_len, span, subtree_sum, totals_len, Board, Built, Options, Orphan, Refusal, Row,
+/// };
+///
+/// let mut board = Board::EMPTY;
+/// board.add(Row::new(30, 10, 1, 5))?;
+/// board.add(Row::new(10, 20, 1, 7))?;
+/// board.add(Row::new(20, 30, 1, 11))?;
+/// let mut index = [0; index_len(4)];
+/// let mut totals = [0; totals_len(4)];
+/// let options = Options { orphan: Orphan::Root, ..Options::default() };
+/// let built = build(&board, &options, &mut index, &mut totals)?;
+/// assert_eq!(built, Built { nodes: 4, left: 0 });
+///
+/// let nodes: Vec<_> =
+///     bodies(span(&index, 1)?).map(|body| (body.numeral, body.row, body.closing)).collect();
+/// assert_eq!(nodes, [(10, 0, false), (20, 2, false), (30, 3, false), (10, 1, true)]);
+/// assert_eq!(subtree_sum(&index, &totals, 1)?, 23);
+///
+/// // By default orphans are ignored.
+/// let built = build(&board, &Options::default(), &mut index, &mut totals)?;
+/// assert_eq!(built, Built { nodes: 0, left: 3 });
 /// # Ok::<(), Refusal>(())
 /// ```
 pub fn build(

@@ -15,7 +15,7 @@ pub const MAX_NODES: usize = 65_535;
 pub const LEVEL_MASK: u32 = 0xffff;
 /// The bit in a body's last word that tells a closing path.
 pub const CLOSING_BIT: u32 = 1 << 30;
-/// The bit in a body's last word that tells an orphan's path.
+/// The bit in a body's last word that tells an orphan's path, or one that begins with an entry.
 pub const ORPHAN_BIT: u32 = 1 << 31;
 
 /// Words of an index of so many nodes.
@@ -32,7 +32,7 @@ pub const fn totals_len(nodes: usize) -> usize {
 #[derive(Clone, Copy, Debug, PartialEq, Eq, Hash)]
 pub struct Body {
     pub numeral: u32,
-    /// Number of the row that the node's path ends with.
+    /// Number of the row that the node's path ends with; 0 for the entry of an island, which is no row.
     pub row: u32,
     /// The node and all nodes below it.
     pub size: u32,
@@ -44,7 +44,7 @@ pub struct Body {
     pub level: u32,
     /// The path closes a cycle: its last numeral stands on it before.
     pub closing: bool,
-    /// The node is on an orphan's path.
+    /// The node is on an orphan's path, or on one that begins with an entry.
     pub orphan: bool,
 }
 

@@ -35,7 +35,7 @@ pub enum Refusal {
     UnknownCode = 6,
     /// A depth is given and orphans aren't ignored.
     DepthWithOrphans = 7,
-    /// Orphans are to be adopted, there is one, and there is no start row to adopt it.
+    /// Orphans are to be adopted, there is one, on an island too, and there is no start row to adopt it.
     NoStartRow = 8,
     /// There are over 65,535 nodes, or more than one of the two slices holds.
     TooManyNodes = 9,

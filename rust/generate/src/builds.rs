@@ -1,6 +1,7 @@
 //! Random boards' rows, options, start lists and slices for builds.
 
 use crate::random::Random;
+use crate::rings::rings;
 use reference::forest::forest;
 use reference::{Options, Row, Start, BODY, CONTENTS, MAX_ROWS};
 use std::cmp::Reverse;
@@ -16,7 +17,10 @@ pub enum Shape {
     Wide,
     /// A tree with edges that lead back, or one row to a numeral with parents anywhere.
     Cyclic,
-    /// Rings and what hangs from them, beside a tree.
+    /// Rings and what hangs from them, alone.
+    Rings,
+    /// The same beside a tree and beside trees whose roots miss their parents; some
+    /// rows of either lead to the other.
     Islands,
     /// Missing parents, with subtrees and rings below, beside a tree; some share
     /// a numeral with it.
@@ -33,11 +37,12 @@ pub enum Shape {
 }
 
 /// All shapes.
-pub const SHAPES: [Shape; 10] = [
+pub const SHAPES: [Shape; 11] = [
     Shape::Tree,
     Shape::Chain,
     Shape::Wide,
     Shape::Cyclic,
+    Shape::Rings,
     Shape::Islands,
     Shape::Orphans,
     Shape::Duplicates,
@@ -75,10 +80,36 @@ fn back_edges(random: &mut Random, extra: usize, edges: &mut Vec<(u32, u32)>) {
     }
 }
 
-/// Edges of a ring over the numerals `first` to `last`.
-fn ring(first: u32, last: u32, edges: &mut Vec<(u32, u32)>) {
-    for numeral in first..=last {
-        edges.push((if numeral == first { last } else { numeral - 1 }, numeral));
+/// Edges of a tree over the numerals `first` to `last` whose roots miss their
+/// parents, with some rows that miss theirs further down.
+fn lost_tree(random: &mut Random, first: u32, last: u32, edges: &mut Vec<(u32, u32)>) {
+    let begin = edges.len();
+    tree(random, first, last, edges);
+    for edge in &mut edges[begin..] {
+        if edge.0 == 0 || random.chance(1, 20) {
+            edge.0 = MISSING + random.below(3) as u32;
+        }
+    }
+}
+
+/// Edges of rings beside a tree and a tree that misses its parent, either or both
+/// of which may be left out, and up to two rows between any two numerals.
+fn islands(random: &mut Random, size: usize, edges: &mut Vec<(u32, u32)>) {
+    let between = random.below(3).min(size / 4);
+    let rest = size - between;
+    let own = random.between(1, rest);
+    edges.extend(rings(random, 1, own));
+    let some = random.between(own, rest);
+    let middle = random.pick(&[own, some, rest]);
+    if own < middle {
+        tree(random, own as u32 + 1, middle as u32, edges);
+    }
+    if middle < rest {
+        lost_tree(random, middle as u32 + 1, rest as u32, edges);
+    }
+    for _ in 0..between {
+        let (above, below) = (random.pick(edges).1, random.pick(edges).1);
+        edges.push((above, below));
     }
 }
 
@@ -98,8 +129,8 @@ fn tied(random: &mut Random, size: usize, edges: &mut Vec<(u32, u32)>) {
 }
 
 /// Rows of a shape; at most `size` of them, where `size` is 1 to 1,024. Rows
-/// come in random order or with falling numerals, with random labels as numerals
-/// and ties in the order.
+/// come in random order or with falling numerals, those with rings also in the
+/// order made or its reverse, with random labels as numerals and ties in the order.
 pub fn rows(random: &mut Random, shape: Shape, size: usize) -> Vec<Row> {
     let last = size as u32;
     let mut edges: Vec<(u32, u32)> = Vec::new();
@@ -137,26 +168,8 @@ pub fn rows(random: &mut Random, shape: Shape, size: usize) -> Vec<Row> {
                 back_edges(random, extra, &mut edges);
             }
         }
-        Shape::Islands => {
-            let rings = random.between(1, 3);
-            let mut next = 1;
-            for _ in 0..rings {
-                let end = (next + random.below(4) as u32).min(last);
-                if next > last {
-                    break;
-                }
-                ring(next, end, &mut edges);
-                if end < last && random.chance(1, 2) {
-                    edges.push((end, end + 1));
-                    next = end + 2;
-                } else {
-                    next = end + 1;
-                }
-            }
-            if next <= last {
-                tree(random, next, last, &mut edges);
-            }
-        }
+        Shape::Rings => edges = rings(random, 1, size),
+        Shape::Islands => islands(random, size, &mut edges),
         Shape::Orphans => {
             // A tree, and behind it trees whose roots miss their parents.
             let own = random.between(1, size) as u32;
@@ -164,12 +177,7 @@ pub fn rows(random: &mut Random, shape: Shape, size: usize) -> Vec<Row> {
             let mut lost = Vec::new();
             if own < last {
                 let extra = random.below(3).min((last - own) as usize / 2);
-                tree(random, own + 1, last - extra as u32, &mut lost);
-                for edge in &mut lost {
-                    if edge.0 == 0 || random.chance(1, 20) {
-                        edge.0 = MISSING + random.below(3) as u32;
-                    }
-                }
+                lost_tree(random, own + 1, last - extra as u32, &mut lost);
                 back_edges(random, extra, &mut lost);
             }
             edges.extend(lost);
@@ -202,7 +210,14 @@ pub fn rows(random: &mut Random, shape: Shape, size: usize) -> Vec<Row> {
         }
         Shape::Ties => tied(random, size, &mut edges),
     }
-    random.shuffle(&mut edges);
+    let rings = shape == Shape::Rings || shape == Shape::Islands;
+    match random.below(6) {
+        // Tails, and rows between rings, behind all rings before them.
+        0 if rings => {}
+        // The other way round.
+        1 if rings => edges.reverse(),
+        _ => random.shuffle(&mut edges),
+    }
     rows_of(random, shape, edges)
 }
 
@@ -215,7 +230,11 @@ fn rows_of(random: &mut Random, shape: Shape, edges: Vec<(u32, u32)>) -> Vec<Row
         number if far => u32::MAX - (number - 1) * 97,
         number => number,
     };
-    let orders = random.pick(if shape == Shape::Ties { &[1, 2] } else { &[1, 3, 1_000] });
+    let orders = random.pick(match shape {
+        Shape::Ties => &[1, 2],
+        Shape::Rings | Shape::Islands => &[1, 1, 3, 1_000],
+        _ => &[1, 3, 1_000],
+    });
     // Where all minutes are the same, rows of one parent, numeral and order are equal in all fields.
     let same_minutes = random.chance(1, 4).then(|| random.minutes());
     let mut rows: Vec<Row> = edges
@@ -328,6 +347,14 @@ pub fn start_of(list: &Option<Vec<u32>>) -> Start<'_> {
     }
 }
 
+/// What becomes of orphans by a code; they are ignored where refusal 6 or 7 comes first.
+pub fn orphan_choice(code: u32, depth: Option<i32>) -> u32 {
+    match Options::read(code) {
+        Some(options) if depth.is_none() => options.orphan,
+        _ => 0,
+    }
+}
+
 /// The number of nodes, or none when more than `most`.
 pub fn node_count(
     rows: &[Row],
@@ -336,11 +363,7 @@ pub fn node_count(
     start: Start,
     most: usize,
 ) -> Option<usize> {
-    let orphan = match Options::read(code) {
-        None => return Some(0),
-        Some(options) => options.orphan,
-    };
-    match forest(rows, orphan, depth, start, &|n| n <= most) {
+    match forest(rows, orphan_choice(code, depth), depth, start, &|n| n <= most) {
         Ok(forest) => Some(forest.nodes.len()),
         Err(8) => Some(0),
         Err(_) => None,
@@ -377,11 +400,41 @@ pub fn build_case(random: &mut Random) -> BuildCase {
     build_case_of(random, rows)
 }
 
-/// A random build of the rows. Those of more than 3,000 nodes get slices that
-/// are too short; `builds::large_case` makes the ones at the node limit.
-pub fn build_case_of(random: &mut Random, rows: Vec<Row>) -> BuildCase {
-    let (code, depth) = options(random);
+/// A random build of rows with rings.
+pub fn island_case(random: &mut Random) -> BuildCase {
+    let shape = random.pick(&[Shape::Rings, Shape::Islands]);
+    let size = size(random);
+    let rows = rows(random, shape, size);
+    island_case_of(random, rows)
+}
+
+/// A random build of the rows without a depth, under adopt or root mostly.
+pub fn island_case_of(random: &mut Random, rows: Vec<Row>) -> BuildCase {
+    let code = match random.below(8) {
+        0 => random.below(24) as u32,
+        1 => random.pick(&[6, 7, 10, 11, 14, 15, 18, 19, 22, 23]),
+        2..=4 => 2,
+        _ => 3,
+    };
     let start = start(random, &rows);
+    with_slices(random, rows, (code, None), start)
+}
+
+/// A random build of the rows.
+pub fn build_case_of(random: &mut Random, rows: Vec<Row>) -> BuildCase {
+    let options = options(random);
+    let start = start(random, &rows);
+    with_slices(random, rows, options, start)
+}
+
+/// The build with random slices. Those of more than 3,000 nodes get slices that
+/// are too short; `builds::large_case` makes the ones at the node limit.
+fn with_slices(
+    random: &mut Random,
+    rows: Vec<Row>,
+    (code, depth): (u32, Option<i32>),
+    start: Option<Vec<u32>>,
+) -> BuildCase {
     let n = node_count(&rows, code, depth, start_of(&start), 3_000);
     let (index, totals) = match n {
         Some(n) => slice_lengths(random, n),
@@ -415,6 +468,38 @@ pub fn large_case(random: &mut Random, nodes: usize) -> BuildCase {
         rows.push(Row::new(parent, numeral, random.below(9) as u32, random.minutes()));
     }
     random.shuffle(&mut rows);
+    let index = random.noise(CONTENTS + BODY * 65_536);
+    let totals = random.wide_noise(65_537);
+    BuildCase { rows, code, depth: None, start: None, index, totals }
+}
+
+/// A build of `nodes` nodes, near the limit of 65,535, almost all of them below
+/// entries: a ring of two numerals, `a` rows of one and a single row of the other,
+/// with `b` rows below the one, gives 1 + a × (b + 2) nodes; rings of one row, an
+/// orphan and a start row fill up. Slices hold 65,536 nodes.
+pub fn large_island_case(random: &mut Random, nodes: usize) -> BuildCase {
+    let a = random.between(150, 300);
+    let b = 65_400 / a - 2;
+    let mut edges = vec![(2, 1), (0, 4)];
+    edges.resize(edges.len() + a, (1, 2));
+    edges.resize(edges.len() + b, (2, 3));
+    let rest = nodes - (1 + a * (b + 2)) - 1;
+    if rest % 2 == 1 {
+        edges.push((MISSING, 5));
+    }
+    edges.extend((0..rest as u32 / 2).map(|number| (100_000 + number, 100_000 + number)));
+    random.shuffle(&mut edges);
+    // The ring's entry has the numeral of the single row.
+    let place = |edge| edges.iter().position(|other| *other == edge).expect("an edge of the ring");
+    let (single, first) = (place((2, 1)), place((1, 2)));
+    edges.swap(single, single.min(first));
+    let rows = edges
+        .into_iter()
+        .map(|(parent, numeral)| {
+            Row::new(parent, numeral, random.below(9) as u32, random.minutes())
+        })
+        .collect();
+    let code = random.pick(&[2, 3]);
     let index = random.noise(CONTENTS + BODY * 65_536);
     let totals = random.wide_noise(65_537);
     BuildCase { rows, code, depth: None, start: None, index, totals }

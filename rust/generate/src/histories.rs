@@ -1,5 +1,6 @@
 //! Random lists of edit calls, from an empty board and on boards made by hand.
 
+use crate::builds::{rows, size, Shape};
 use crate::random::Random;
 use reference::{Call, Machine, Row, MAX_KEPT, MAX_ROWS, MAX_UNDONE};
 
@@ -19,11 +20,14 @@ pub enum History {
     /// and one step further, in between adds, withdrawals and remarks, after
     /// which nothing is undone.
     Runs,
+    /// Rows with rings, added one by one; then calls by which rings are opened and
+    /// closed again: withdrawals, rows that lead back, undos and redos.
+    Islands,
 }
 
 /// All kinds.
-pub const HISTORIES: [History; 5] =
-    [History::Small, History::Deep, History::Full, History::Wild, History::Runs];
+pub const HISTORIES: [History; 6] =
+    [History::Small, History::Deep, History::Full, History::Wild, History::Runs, History::Islands];
 
 /// Calls made so far, with the row count and the row counts of the kept and of
 /// the undone steps, newest last.
@@ -32,6 +36,14 @@ struct Writer {
     count: usize,
     kept: Vec<usize>,
     undone: Vec<usize>,
+}
+
+/// The row that a call adds, where it has a numeral.
+fn added(call: &Call) -> Option<Row> {
+    match call {
+        Call::Add(row) if row.numeral != 0 => Some(*row),
+        _ => None,
+    }
 }
 
 impl Writer {
@@ -103,10 +115,17 @@ impl Writer {
         if self.calls.is_empty() {
             return random.row();
         }
-        match random.pick(&self.calls) {
-            Call::Add(row) if row.numeral != 0 => random.row_beside(row),
-            _ => random.row(),
+        match added(&random.pick(&self.calls)) {
+            Some(row) => random.row_beside(row),
+            None => random.row(),
         }
+    }
+
+    /// A row that leads from one added before back to another, or to itself.
+    fn row_back(&self, random: &mut Random) -> Row {
+        let rows: Vec<Row> = self.calls.iter().filter_map(added).collect();
+        let (from, to) = (random.pick(&rows), random.pick(&rows));
+        Row { parent: from.numeral, numeral: to.numeral, ..random.row() }
     }
 
     /// A call that is accepted where one can be, by the given weights.
@@ -260,6 +279,19 @@ pub fn history(random: &mut Random, kind: History) -> Vec<Call> {
                     writer.weighted(random, [4, 2, 4, 0, 0]);
                 }
                 writer.runs(random);
+            }
+        }
+        History::Islands => {
+            let shape = random.pick(&[Shape::Rings, Shape::Islands]);
+            let size = size(random);
+            for row in rows(random, shape, size) {
+                writer.call(Call::Add(row));
+            }
+            for _ in 0..random.below(12) {
+                match random.below(3) {
+                    0 => writer.call(Call::Add(writer.row_back(random))),
+                    _ => writer.weighted(random, [0, 3, 1, 3, 2]),
+                }
             }
         }
     }

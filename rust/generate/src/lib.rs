@@ -6,20 +6,24 @@
 //! needs, to obtain built indexes to damage, and to follow the rows that the
 //! entries of a journal lead to.
 //!
-//! [`ties`] tells which siblings of a built index have equal orders, so that tests
-//! can count what their cases reach.
+//! [`ties`] tells which siblings of a built index have equal orders, and [`islands`]
+//! which entries were made for rings, so that tests can count what their cases reach.
 #![forbid(unsafe_code)]
 
 pub mod boards;
 pub mod builds;
 pub mod histories;
 pub mod indexes;
+pub mod islands;
 pub mod listings;
 pub mod random;
+mod rings;
 pub mod ties;
 
 pub use boards::{holding, sound_boards, stepped_board, unsound_boards};
-pub use builds::{build_case, build_case_of, rows, BuildCase, Shape, SHAPES};
+pub use builds::{
+    build_case, build_case_of, island_case, island_case_of, rows, BuildCase, Shape, SHAPES,
+};
 pub use histories::{history, history_on, History, HISTORIES};
 pub use indexes::{index, navigation_case, totals, NavigationCase};
 pub use listings::listing;

@@ -58,8 +58,9 @@ pub fn ties(rows: &[Row], index: &[u32]) -> Vec<Tie> {
     let mut found = Vec::new();
     for (place, body) in bodies.iter().enumerate() {
         let Some(next) = bodies.get(place + body.size as usize) else { continue };
-        // Regular and orphan nodes below one node aren't in sibling order.
-        let siblings = (next.parent, next.orphan) == (body.parent, body.orphan);
+        // Regular nodes, orphans and entries below one node aren't in sibling order; the last have
+        // no row.
+        let siblings = (next.parent, next.orphan) == (body.parent, body.orphan) && next.row != 0;
         if siblings && row(rows, body.row).order == row(rows, next.row).order {
             found.push(Tie {
                 among: among(&bodies, body),

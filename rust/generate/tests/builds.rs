@@ -1,6 +1,6 @@
 //! Builds over generated boards, against the sentences tried on every row list.
 
-use generate::builds::{large_case, start_of};
+use generate::builds::{large_case, large_island_case, orphan_choice, start_of};
 use generate::*;
 use reference::forest::{forest, node_order};
 use reference::*;
@@ -63,7 +63,7 @@ fn tried(rows: &[Row], orphan: u32, depth: Option<i32>, start: Start) -> Result<
         let deep = depth.is_some_and(|d| d < 0 || list.len() as i64 > d as i64 + 1);
         if is_start(list[0]) && !deep {
             if let Some(closing) = linked(rows, list) {
-                nodes.push(Node { rows: list.clone(), orphan: false, closing });
+                nodes.push(Node { rows: list.clone(), entry: None, orphan: false, closing });
             }
         }
     }
@@ -76,57 +76,130 @@ fn tried(rows: &[Row], orphan: u32, depth: Option<i32>, start: Start) -> Result<
     };
     let starts: Vec<usize> = (1..=rows.len()).filter(|k| is_start(*k)).collect();
     let key = |k: &usize| (rows[*k - 1].order, numeral(rows, *k), *k);
-    if orphan == 2 && starts.is_empty() && (1..=rows.len()).any(top) {
+    let adopting = starts.iter().copied().max_by_key(key);
+    if orphan == 2 && adopting.is_none() && !unreached.is_empty() {
+        // With no start row each row of U ends a path from a top orphan or from an entry.
         return Err(8);
     }
     if orphan == 2 || orphan == 3 {
-        let adopting = starts.iter().max_by_key(|k| key(k));
+        let front = if orphan == 2 { adopting } else { None };
         for list in &lists {
             if top(list[0]) && list.iter().all(|k| unreached.contains(k)) {
                 if let Some(closing) = linked(rows, list) {
-                    let mut path = list.clone();
-                    if orphan == 2 {
-                        path.insert(0, *adopting.unwrap());
-                    }
-                    nodes.push(Node { rows: path, orphan: true, closing });
+                    let path = front.into_iter().chain(list.clone()).collect();
+                    nodes.push(Node { rows: path, entry: None, orphan: true, closing });
                 }
             }
         }
+        let left = unreached.iter().copied().filter(|k| !reached(*k, &nodes)).collect();
+        nodes.extend(tried_entries(rows, &lists, left, front));
     }
     nodes.sort_by(|a, b| {
-        let keys = |node: &Node| node.rows.iter().map(key).collect::<Vec<_>>();
-        a.orphan.cmp(&b.orphan).then(keys(a).cmp(&keys(b)))
+        let made = |node: &Node| node.entry.map_or(0, |entry| entry.made);
+        let keys = |node: &Node| -> Vec<_> {
+            let numbers = node.rows.iter().filter(|k| **k != 0);
+            numbers.map(key).collect()
+        };
+        (a.orphan, made(a), keys(a)).cmp(&(b.orphan, made(b), keys(b)))
     });
     Ok(nodes)
+}
+
+/// The nodes from entries by trying every list, step by step; `left` is I, rising.
+fn tried_entries(
+    rows: &[Row],
+    lists: &[Vec<usize>],
+    mut left: Vec<usize>,
+    front: Option<usize>,
+) -> Vec<Node> {
+    let mut nodes = Vec::new();
+    let mut made = 0;
+    while !left.is_empty() {
+        let by_rows_left = |list: &[usize]| list.iter().all(|k| left.contains(k));
+        // Each later row's parent is the numeral before it, the first's the given one.
+        let goes_on = |from: u32, list: &[usize]| {
+            rows[list[0] - 1].parent == from
+                && list.windows(2).all(|pair| rows[pair[1] - 1].parent == numeral(rows, pair[0]))
+        };
+        let ringed = |k: &usize| {
+            let from = numeral(rows, *k);
+            lists.iter().any(|list| {
+                by_rows_left(list)
+                    && goes_on(from, list)
+                    && numeral(rows, list[list.len() - 1]) == from
+            })
+        };
+        let taken = left.iter().copied().find(ringed).expect("the step repeats until I is empty");
+        made += 1;
+        let entry = Some(IslandEntry { made, numeral: numeral(rows, taken) });
+        // The board with the entry as one row more, whose number stands for it in the lists.
+        let mut with_entry = rows.to_vec();
+        with_entry.push(Row::new(0, numeral(rows, taken), 0, 0));
+        let mut ended = Vec::new();
+        for list in std::iter::once(&Vec::new()).chain(lists) {
+            let path: Vec<usize> = [&[with_entry.len()], &list[..]].concat();
+            if let (true, Some(closing)) = (by_rows_left(list), linked(&with_entry, &path)) {
+                ended.extend(list.last().copied());
+                let path = front.into_iter().chain([0]).chain(list.iter().copied()).collect();
+                nodes.push(Node { rows: path, entry, orphan: true, closing });
+            }
+        }
+        left.retain(|k| !ended.contains(k));
+    }
+    nodes
+}
+
+/// A node's path with its entry, if it has one, counted on behind the rows: no two nodes have one
+/// path.
+fn path(node: &Node, count: usize) -> Vec<usize> {
+    let number = |k: &usize| match k {
+        0 => count + node.entry.expect("row number 0 stands for an entry").made,
+        _ => *k,
+    };
+    node.rows.iter().map(number).collect()
+}
+
+fn paths(nodes: &[Node], count: usize) -> Vec<Vec<usize>> {
+    nodes.iter().map(|node| path(node, count)).collect()
 }
 
 fn begins(longer: &[usize], path: &[usize]) -> bool {
     longer.len() >= path.len() && longer[..path.len()] == *path
 }
 
+/// Numeral and minutes of a node's last row, or of its entry.
+fn last_of(rows: &[Row], node: &Node) -> (u32, i64) {
+    match node.rows[node.rows.len() - 1] {
+        0 => (node.entry.unwrap().numeral, 0),
+        k => (numeral(rows, k), rows[k - 1].minutes as i64),
+    }
+}
+
 /// The whole result of a build, from the nodes alone.
 fn expected(case: &BuildCase, nodes: &[Node]) -> (Built, Vec<u32>, Vec<i64>) {
     let (mut index, mut totals) = (case.index.clone(), case.totals.clone());
     let n = nodes.len();
-    let rank = |path: &[usize]| nodes.iter().position(|node| node.rows == path).unwrap() as u32 + 1;
+    let paths = paths(nodes, case.rows.len());
+    let rank = |path: &[usize]| paths.iter().position(|other| other == path).unwrap() as u32 + 1;
     let mut check = 0u32;
     let mut total = 0i64;
     totals[0] = 0;
     for (place, node) in nodes.iter().enumerate() {
-        let last = *node.rows.last().unwrap();
-        let size = nodes.iter().filter(|other| begins(&other.rows, &node.rows)).count();
-        let shorter = &node.rows[..node.rows.len() - 1];
+        let (numeral, minutes) = last_of(&case.rows, node);
+        let own = &paths[place];
+        let size = paths.iter().filter(|other| begins(other, own)).count();
+        let shorter = &own[..own.len() - 1];
         let words = [
-            numeral(&case.rows, last),
-            last as u32,
+            numeral,
+            node.rows[node.rows.len() - 1] as u32,
             size as u32,
             if shorter.is_empty() { 0 } else { rank(shorter) },
-            rank(&node.rows[..1]),
-            node.rows.len() as u32 | (node.closing as u32) << 30 | (node.orphan as u32) << 31,
+            rank(&own[..1]),
+            own.len() as u32 | (node.closing as u32) << 30 | (node.orphan as u32) << 31,
         ];
         index[8 + 6 * place..][..6].copy_from_slice(&words);
         check = words.iter().fold(check, |sum, word| sum.wrapping_add(*word));
-        total += case.rows[last - 1].minutes as i64;
+        total += minutes;
         totals[place + 1] = total;
     }
     index[..8].copy_from_slice(&[n as u32, 8, 6, check, 0, 0, 0, 0]);
@@ -155,10 +228,11 @@ fn expected_refusal(case: &BuildCase, nodes: &Result<Vec<Node>, u32>) -> u32 {
     if options.cycle == 1 && nodes.iter().any(|node| node.closing) {
         return 10;
     }
-    let last = |node: &Node| numeral(&case.rows, *node.rows.last().unwrap());
-    for a in nodes {
+    let last = |node: &Node| last_of(&case.rows, node).0;
+    let paths = paths(nodes, case.rows.len());
+    for (a, own) in nodes.iter().zip(&paths) {
         let shares = nodes.iter().any(|b| a != b && last(a) == last(b));
-        let size = nodes.iter().filter(|b| begins(&b.rows, &a.rows)).count();
+        let size = paths.iter().filter(|other| begins(other, own)).count();
         if shares && (options.multi == 2 || options.multi == 1 && size > 1) {
             return 11;
         }
@@ -198,7 +272,7 @@ fn every_list_tried() {
         let rows = rows(&mut random, shape, size);
         let (code, depth) = generate::builds::options(&mut random);
         let start = generate::builds::start(&mut random, &rows);
-        let orphan = Options::read(code).map_or(0, |options| options.orphan);
+        let orphan = orphan_choice(code, depth);
         let nodes = tried(&rows, orphan, depth, start_of(&start));
         let n = nodes.as_ref().map_or(0, |nodes| nodes.len());
         let (index, totals) = generate::builds::slice_lengths(&mut random, n);
@@ -215,8 +289,9 @@ fn every_list_tried() {
 fn ties_are_found(rows: &[Row], nodes: &[Node], index: &[u32]) {
     let mut by_row_number = nodes.to_vec();
     by_row_number.sort_by_key(|node| {
-        let keys: Vec<_> = node.rows.iter().map(|k| (rows[k - 1].order, *k)).collect();
-        (node.orphan, keys)
+        let numbers = node.rows.iter().filter(|k| **k != 0);
+        let keys: Vec<_> = numbers.map(|k| (rows[k - 1].order, *k)).collect();
+        (node.orphan, node.entry.map_or(0, |entry| entry.made), keys)
     });
     let found = ties::ties(rows, index).iter().any(ties::Tie::numeral_decides);
     assert_eq!(found, by_row_number != nodes, "{rows:?}");
@@ -230,7 +305,7 @@ fn generated_builds() {
     let mut seen = [0; 13];
     for _ in 0..1_500 {
         let case = build_case(&mut random);
-        let orphan = Options::read(case.code).map_or(0, |options| options.orphan);
+        let orphan = orphan_choice(case.code, case.depth);
         let found = forest(&case.rows, orphan, case.depth, case.start(), &|n| n <= 600);
         if found == Err(9) {
             // Too many to form anew: only the refusal's zeroes and the index check.
@@ -276,8 +351,7 @@ fn cases_reached() {
         "adopted, sharing the adopting numeral",
         "orphan root",
         "orphan root and closing",
-        "left over under adopt",
-        "left over under root",
+        "left over under ignore",
         "shared numeral",
         "shared leaf under leaves",
         "start row below a start row",
@@ -286,10 +360,15 @@ fn cases_reached() {
         "exact slices",
         "over 500 nodes",
     ];
-    let names: Vec<&str> = names.into_iter().chain(ties::FACTS).collect();
+    let names: Vec<&str> = names
+        .into_iter()
+        .chain(ties::FACTS)
+        .chain(islands::FACTS)
+        .chain(islands::REFUSALS)
+        .collect();
     let mut seen = vec![0; names.len()];
-    for _ in 0..4_000 {
-        let case = build_case(&mut random);
+    for round in 0..6_000 {
+        let case = if round % 3 == 0 { island_case(&mut random) } else { build_case(&mut random) };
         let board = holding(&mut random, &case.rows);
         let (mut index, mut totals) = (case.index.clone(), case.totals.clone());
         let built =
@@ -299,10 +378,16 @@ fn cases_reached() {
             (*built, &index.clone(), &totals.clone())
         });
         if built.refusal != 0 {
+            let refusals = islands::refusals(&case, built.refusal);
+            let first = names.len() - islands::REFUSALS.len();
+            for (count, fact) in seen[first..].iter_mut().zip(refusals) {
+                *count += fact as u32;
+            }
             continue;
         }
         let n = built.nodes as usize;
         let options = Options::read(case.code).unwrap();
+        assert!(options.orphan < 2 || built.left == 0, "{case:?}");
         let bodies: Vec<Body> = (1..=n).map(|rank| Body::read(&index, rank)).collect();
         let adopt = options.orphan == 2;
         let any = |test: &dyn Fn(&Body) -> bool| bodies.iter().any(test);
@@ -318,8 +403,7 @@ fn cases_reached() {
             adopt && any(&|b| b.orphan && b.numeral == of(b.root).numeral),
             options.orphan == 3 && any(&|b| b.orphan),
             options.orphan == 3 && any(&|b| b.orphan && b.closing),
-            adopt && built.left > 0,
-            options.orphan == 3 && built.left > 0,
+            built.left > 0,
             few && any(&|b| sharing(b)),
             few && options.multi == 1 && any(&|b| sharing(b)),
             few && any(&|b| b.level > 1 && bodies.iter().any(|r| r.level == 1 && r.row == b.row)),
@@ -330,7 +414,8 @@ fn cases_reached() {
             !few,
         ];
         let ties = ties::facts(&case.rows, &index);
-        for (count, fact) in seen.iter_mut().zip(facts.into_iter().chain(ties)) {
+        let islands = islands::facts(&case, &index);
+        for (count, fact) in seen.iter_mut().zip(facts.into_iter().chain(ties).chain(islands)) {
             *count += fact as u32;
         }
     }
@@ -345,8 +430,9 @@ fn cases_reached() {
 #[test]
 fn builds_at_the_node_limit() {
     let mut random = Random::announced("builds at the node limit", 23);
-    for nodes in [65_534, 65_535, 65_536, 65_535, 65_536] {
-        let case = large_case(&mut random, nodes);
+    for (round, nodes) in [65_534, 65_535, 65_536].repeat(4).into_iter().enumerate() {
+        let large = if round % 2 == 0 { large_case } else { large_island_case };
+        let case = large(&mut random, nodes);
         assert!(case.rows.len() <= 1_024);
         let (built, index, totals) = run(&case);
         if nodes <= 65_535 {
@@ -369,9 +455,10 @@ fn builds_at_the_node_limit() {
 #[test]
 fn navigation_by_paths() {
     let mut random = Random::announced("navigation by paths", 24);
-    let mut done = 0;
+    let (mut done, mut with_entries) = (0, 0);
     while done < 400 {
-        let mut case = build_case(&mut random);
+        let mut case =
+            if done % 2 == 0 { island_case(&mut random) } else { build_case(&mut random) };
         case.code %= 4;
         if case.code != 0 {
             case.depth = None;
@@ -388,48 +475,56 @@ fn navigation_by_paths() {
             continue;
         }
         done += 1;
-        let minutes = |node: &Node| case.rows[*node.rows.last().unwrap() - 1].minutes as i64;
-        for _ in 0..10 {
-            let rank = random.between(1, nodes.len());
-            let own = &nodes[rank - 1];
+        let paths = paths(&nodes, case.rows.len());
+        let entry = nodes.iter().position(|node| node.rows[node.rows.len() - 1] == 0);
+        with_entries += entry.is_some() as u32;
+        for round in 0..10 {
+            let rank = match entry {
+                Some(place) if round == 0 => place + 1,
+                _ => random.between(1, nodes.len()),
+            };
+            let own = &paths[rank - 1][..];
             let (lower, upper) = (random.limit(), random.limit());
-            let within = |other: &Node| {
-                let distance = other.rows.len() as i64 - own.rows.len() as i64;
+            let within = |other: &[usize]| {
+                let distance = other.len() as i64 - own.len() as i64;
                 lower as i64 <= distance && distance <= upper as i64
             };
-            let ranks = |keep: &dyn Fn(&Node) -> bool| -> Vec<u32> {
-                (1..=nodes.len()).filter(|k| keep(&nodes[k - 1])).map(|k| k as u32).collect()
+            let ranks = |keep: &dyn Fn(&[usize]) -> bool| -> Vec<u32> {
+                (1..=paths.len()).filter(|k| keep(&paths[k - 1])).map(|k| k as u32).collect()
+            };
+            let minutes = |ranks: Vec<u32>| -> i64 {
+                ranks.iter().map(|rank| last_of(&case.rows, &nodes[*rank as usize - 1]).1).sum()
             };
             let mut list = vec![0; nodes.len()];
 
-            let wanted = ranks(&|other| begins(&other.rows, &own.rows) && within(other));
+            let wanted = ranks(&|other| begins(other, own) && within(other));
             let listed = descendants(&index, rank as u32, lower, upper, &mut list);
             assert_eq!(listed, Listed { refusal: 0, length: wanted.len() as u32 });
             assert_eq!(list[..wanted.len()], wanted);
 
-            let mut wanted = ranks(&|other| begins(&own.rows, &other.rows) && within(other));
+            let mut wanted = ranks(&|other| begins(own, other) && within(other));
             wanted.reverse();
             let climbed = ancestors(&index, rank as u32, lower, upper, &mut list);
-            let links = own.rows.len() as u32 - 1;
+            let links = own.len() as u32 - 1;
             assert_eq!(climbed, Climbed { refusal: 0, length: wanted.len() as u32, links });
             assert_eq!(list[..wanted.len()], wanted);
 
-            let above = |node: &Node| node.rows[..node.rows.len() - 1].to_vec();
-            let wanted = ranks(&|other| above(other) == above(own));
+            let above = &own[..own.len() - 1];
+            let wanted = ranks(&|other| other[..other.len() - 1] == *above);
             let listed = siblings(&index, rank as u32, &mut list);
             assert_eq!(listed, Listed { refusal: 0, length: wanted.len() as u32 });
             assert_eq!(list[..wanted.len()], wanted);
 
-            let below = ranks(&|other| begins(&other.rows, &own.rows));
+            let below = ranks(&|other| begins(other, own));
             let words = 8 + 6 * (rank - 1)..8 + 6 * (rank - 1 + below.len());
             assert_eq!(span(&index, rank as u32), Spanned { refusal: 0, words });
 
-            let sum =
-                nodes.iter().filter(|other| begins(&other.rows, &own.rows)).map(minutes).sum();
+            let sum = minutes(below);
             assert_eq!(subtree_sum(&index, &totals, rank as u32), Summed { refusal: 0, sum });
-            let sum =
-                nodes.iter().filter(|other| begins(&own.rows, &other.rows)).map(minutes).sum();
+            let sum = minutes(ranks(&|other| begins(own, other)));
             assert_eq!(path_sum(&index, &totals, rank as u32), Summed { refusal: 0, sum });
         }
     }
+    println!("indexes with entries: {with_entries}");
+    assert!(with_entries > 100, "{with_entries}");
 }

@@ -81,6 +81,7 @@ fn histories() {
             0 => History::Full,
             1 | 6 | 11 => History::Wild,
             2 | 5 | 8 | 13 => History::Runs,
+            3 | 9 => History::Islands,
             _ => random.pick(&[History::Small, History::Deep]),
         };
         let calls = history(&mut random, kind);

@@ -129,10 +129,23 @@ fn written(case: &NavigationCase, list: &[u32], refusal: u32, length: u32, way: 
     }
 }
 
+/// Whether the rows of an input without a bad line have an island, which a table shows as an entry.
+fn has_islands(input: &[u8]) -> bool {
+    let text = std::str::from_utf8(input).unwrap();
+    let rows: Vec<Row> = text
+        .lines()
+        .map(|line| {
+            let fields: Vec<i64> = line.split(' ').map(|field| field.parse().unwrap()).collect();
+            Row::new(fields[0] as u32, fields[1] as u32, fields[2] as u32, fields[3] as i32)
+        })
+        .collect();
+    islands::islands(&rows, Start::ParentZero).contains(&true)
+}
+
 #[test]
 fn listings() {
     let mut random = Random::announced("listings", 34);
-    let (mut tables, mut bad, mut refused) = (0, 0, [0; 13]);
+    let (mut tables, mut entries, mut bad, mut refused) = (0, 0, 0, [0; 13]);
     for _ in 0..600 {
         let input = listing(&mut random);
         let output = String::from_utf8(numerals(&input)).unwrap();
@@ -144,12 +157,20 @@ fn listings() {
             assert_eq!(output.lines().count(), 1);
         } else {
             tables += 1;
+            entries += has_islands(&input) as u32;
             assert!(output.starts_with("rank size parent level root cycle orphan id sum\n"));
             assert!(output.lines().skip(1).all(|line| line.split(' ').count() == 9));
         }
     }
-    println!("tables {tables}, bad lines {bad}, refusals {refused:?}");
-    assert!(tables > 100 && bad > 20 && refused[2] > 3 && refused[3] > 3 && refused[9] > 3);
+    println!("tables {tables}, {entries} with entries, bad lines {bad}, refusals {refused:?}");
+    assert!(
+        tables > 100
+            && entries > 40
+            && bad > 20
+            && refused[2] > 3
+            && refused[3] > 3
+            && refused[9] > 3
+    );
 }
 
 #[test]

@@ -111,6 +111,102 @@ pub fn s3_1_orphan_adopt(engine: &dyn Engine) {
     );
 }
 
+/// Orphaned cycles: T_DEMO_ERR without F5 below E3, so that no root leads to the cycle F5, G3, H2.
+///
+/// The guide prints no table, so that its sentences are compared, under ORPHAN ROOT and ADOPT:
+/// 1. "only edges that have not been traversed when starting from a regular root node are considered.
+///    For these edges, the HIERARCHY_IS_ORPHAN value is set to 1. The original source attribute values
+///    are retained."
+/// 2. "In the case of an orphaned cycle, an additional edge is introduced in order to define a root node
+///    or adopt the orphaned cycle by an existing root node."
+/// 3. "Since there is no corresponding input data for this edge, its source attributes are set to NULL,
+///    except for NODE_ID, which reflects the value of the end point of the newly introduced edge."
+///
+/// Which node of the cycle is the end point it leaves open. By the papers it is that of the first row
+/// entered.
+pub fn s3_1_orphaned_cycle(engine: &dyn Engine) {
+    let mut rows = t_demo_err(&[0, 1, 2, 3]);
+    rows.retain(|row| (row.parent, row.numeral) != (numeral("E3"), numeral("F5")));
+    // H2 over F5 was entered before the other rows of the cycle; now F5 over G3.
+    let mut moved = rows.clone();
+    let place = moved.iter().position(|row| row.numeral == numeral("G3")).expect("a row of G3");
+    moved[..=place].rotate_right(1);
+
+    let view = View::new(engine, rows.clone(), code(3, 0, 0), None, Start::ParentZero);
+    orphaned_cycle_by_the_sentences(&view, false);
+    view.check(
+        &view.all()[12..],
+        "RANK TREE_SIZE PARENT_RANK LEVEL ROOT_RANK IS_CYCLE IS_ORPHAN PARENT_ID NODE_ID
+         13 1 0 1 13 0 0 - E3
+         14 1 0 1 14 0 1 E4 F6
+         15 5 0 1 15 0 1 - F5
+         16 4 15 2 15 0 1 F5 G3
+         17 1 16 3 15 0 1 G3 H1
+         18 2 16 3 15 0 1 G3 H2
+         19 1 18 4 15 1 1 H2 F5",
+    );
+    let view = View::new(engine, moved, code(2, 0, 0), None, Start::ParentZero);
+    orphaned_cycle_by_the_sentences(&view, true);
+    view.check(
+        &view.all()[12..],
+        "RANK TREE_SIZE PARENT_RANK LEVEL ROOT_RANK IS_CYCLE IS_ORPHAN PARENT_ID NODE_ID
+         13 7 0 1 13 0 0 - E3
+         14 1 13 2 13 0 1 E4 F6
+         15 5 13 2 13 0 1 - G3
+         16 1 15 3 13 0 1 G3 H1
+         17 3 15 3 13 0 1 G3 H2
+         18 2 17 4 13 0 1 H2 F5
+         19 1 18 5 13 1 1 F5 G3",
+    );
+
+    // "Orphans are silently ignored"; "If the input data contains any orphans, an error is raised."
+    let view = View::default(engine, rows.clone());
+    assert_eq!((view.image.nodes(), view.image.left), (13, 5));
+    let built = engine.build(&rows, code(1, 0, 0), None, Start::ParentZero);
+    assert_eq!(built.err(), Some(12));
+}
+
+/// The guide's sentences on orphans, of T_DEMO_ERR without F5 below E3.
+fn orphaned_cycle_by_the_sentences(view: &View, adopt: bool) {
+    let ids = |row: Row| (id(row.parent), id(row.numeral));
+    let not_traversed = [("E4", "F6"), ("F5", "G3"), ("G3", "H1"), ("G3", "H2"), ("H2", "F5")];
+    let (orphans, regular): (Vec<u32>, Vec<u32>) =
+        view.ranks().into_iter().partition(|rank| view.image.body(*rank).orphan);
+    let (edges, added): (Vec<u32>, Vec<u32>) =
+        orphans.into_iter().partition(|rank| view.source(*rank).is_some());
+
+    // 1. The orphans are the edges not traversed, each once, with their source attributes.
+    let mut found: Vec<(String, String)> =
+        edges.iter().map(|rank| ids(view.source(*rank).unwrap())).collect();
+    found.sort();
+    let expected = not_traversed.map(|(parent, node)| (parent.to_string(), node.to_string()));
+    assert_eq!(found, expected);
+    for rank in regular {
+        let (parent, node) = ids(view.source(rank).expect("regular edges have source rows"));
+        assert!(!not_traversed.contains(&(&parent, &node)));
+    }
+    assert_eq!(view.image.left, 0);
+
+    // 2. One edge is added, of a root or of a child of the last root; the cycle is below it and closes on it.
+    let [added] = added[..] else { panic!("added edges: {added:?}") };
+    let body = view.image.body(added);
+    match adopt {
+        true => assert_eq!((view.id_of(body.parent), body.level), ("E3".to_string(), 2)),
+        false => assert_eq!((body.parent, body.level), (0, 1)),
+    }
+    assert!(!body.closing);
+    for rank in edges {
+        let own = view.image.body(rank);
+        assert_eq!(view.in_span(rank, added), view.id_of(rank) != "F6");
+        assert_eq!(own.closing, own.numeral == body.numeral);
+    }
+
+    // 3. It has no source row, so no parent, and a node of the cycle as its end point.
+    let pick = Pick { rank: added, start: added };
+    view.check(&[pick], &format!("PARENT_ID NODE_ID\n- {}", view.id_of(added)));
+    assert!(["F5", "G3", "H2"].contains(&view.id_of(added).as_str()));
+}
+
 /// Ancestors of D1 by a source with node and parent exchanged.
 ///
 /// The start condition is on the source's own node id, here the parent; the row
@@ -1106,27 +1202,7 @@ pub fn s8_12_graphviz(engine: &dyn Engine) {
     assert_eq!(found, expected);
 }
 
-// Deviations of the scope paper
-
-/// Without the row of F5 below E3, the cycle F5, G3, H2 is an island: the guide
-/// adds an edge for it; the paper leaves its rows, and H1 below G3, over.
-pub fn deviation_islands(engine: &dyn Engine) {
-    let mut rows = t_demo_err(&[0, 1, 2, 3]);
-    rows.retain(|row| (row.parent, row.numeral) != (numeral("E3"), numeral("F5")));
-    for orphan in [2, 3] {
-        let view = View::new(engine, rows.clone(), code(orphan, 0, 0), None, Start::ParentZero);
-        assert_eq!((view.image.nodes(), view.image.left), (14, 4));
-        let orphans: Vec<String> = view
-            .ranks()
-            .into_iter()
-            .filter(|rank| view.image.body(*rank).orphan)
-            .map(|rank| view.id_of(rank))
-            .collect();
-        assert_eq!(orphans, ["F6"]);
-    }
-    let built = engine.build(&rows, code(1, 0, 0), None, Start::ParentZero);
-    assert_eq!(built.err(), Some(12));
-}
+// What the guide leaves open
 
 /// Equal orders: the smaller numeral comes first, then the smaller row number.
 pub fn deviation_ties(engine: &dyn Engine) {

@@ -4,9 +4,10 @@
 //! What the guide prints is kept as text and compared row by row with what the
 //! engine gives. `run_examples!(engine)` makes one test of each example.
 //!
-//! Where the scope paper differs from the guide:
-//! * Orphaned cycles: the guide adds an edge to make a root or an adopted child
-//!   of them; the paper leaves such rows over (`deviation_islands`).
+//! What the guide leaves open and the papers decide, and where they differ:
+//! * Orphaned cycles: the guide adds an edge to a node of the cycle, and doesn't say
+//!   to which; the papers take the numeral of the lowest row whose numeral is on a
+//!   ring (`s3_1_orphaned_cycle`).
 //! * Siblings of equal order: the guide leaves their order open; the paper takes
 //!   the smaller numeral, then the smaller row number (`deviation_ties`).
 //! * Start conditions: the guide takes any SQL condition; the paper takes parent
@@ -122,6 +123,7 @@ list_examples! {
     s3_1_depth_2
     s3_1_orphan_root
     s3_1_orphan_adopt
+    s3_1_orphaned_cycle
     s3_1_reversed_source
     s3_1_multiparent_error
     s3_1_multiparent_leaves
@@ -174,6 +176,5 @@ list_examples! {
     s8_9_synthetic_data
     s8_11_drill_down
     s8_12_graphviz
-    deviation_islands
     deviation_ties
 }

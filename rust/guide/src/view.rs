@@ -115,9 +115,15 @@ impl<'a> View<'a> {
         of <= rank && rank < of + words.len() as u32 / 6
     }
 
+    /// The source row of a node; none for an added edge, which has no source attributes.
+    pub fn source(&self, rank: u32) -> Option<Row> {
+        let number = self.image.body(rank).row as usize;
+        number.checked_sub(1).map(|place| self.rows[place])
+    }
+
     /// The amount of a node: the minutes of its row.
     pub fn amount(&self, rank: u32) -> i32 {
-        self.rows[self.image.body(rank).row as usize - 1].minutes
+        self.source(rank).expect("a source row").minutes
     }
 
     /// The ids from the root, or from a start node, to a rank.
@@ -143,7 +149,7 @@ impl<'a> View<'a> {
             "ROOT_RANK" => body.root.to_string(),
             "IS_CYCLE" | "HIERARCHY_IS_CYCLE" => (body.closing as u32).to_string(),
             "IS_ORPHAN" => (body.orphan as u32).to_string(),
-            "PARENT_ID" => (self.name)(self.rows[body.row as usize - 1].parent),
+            "PARENT_ID" => (self.name)(self.source(pick.rank).map_or(0, |row| row.parent)),
             "NODE_ID" | "LEAF_ID" | "GRANDPARENT_ID" => (self.name)(body.numeral),
             "DISTANCE" | "HIERARCHY_DISTANCE" => {
                 let start = self.image.body(pick.start);

@@ -3,7 +3,7 @@
 use crate::board::{Board, Row};
 use crate::{BODY, CONTENTS, MAX_NODES};
 use std::cmp::Ordering;
-use std::collections::HashMap;
+use std::collections::{HashMap, HashSet};
 
 /// The start rule.
 #[derive(Clone, Copy, Debug, PartialEq, Eq)]
@@ -40,10 +40,20 @@ impl Options {
     }
 }
 
-/// A node: a path, as row numbers counted from 1.
+/// The entry node made for an island, which stands in a path with row number 0.
+#[derive(Clone, Copy, Debug, PartialEq, Eq, Hash)]
+pub struct IslandEntry {
+    /// Its place in the order made, from 1.
+    pub made: usize,
+    pub numeral: u32,
+}
+
+/// A node: a path, as row numbers counted from 1, and 0 at the place of an entry.
 #[derive(Clone, Debug, PartialEq, Eq)]
 pub struct Node {
     pub rows: Vec<usize>,
+    /// The entry that stands in the path; none for regular paths and from a top orphan.
+    pub entry: Option<IslandEntry>,
     pub orphan: bool,
     pub closing: bool,
 }
@@ -120,11 +130,16 @@ pub fn sibling_order(rows: &[Row], a: usize, b: usize) -> Ordering {
     one.order.cmp(&other.order).then(one.numeral.cmp(&other.numeral)).then(a.cmp(&b))
 }
 
-/// Order of nodes: regular before orphan; a path before its extensions; else
-/// the first differing row decides by sibling order.
+/// Order of nodes: regular before orphan; "entry nodes come after all other orphans in the order
+/// made", each with everything below it; a path before its extensions; else the first differing row
+/// decides by sibling order.
 pub fn node_order(rows: &[Row], a: &Node, b: &Node) -> Ordering {
     if a.orphan != b.orphan {
         return a.orphan.cmp(&b.orphan);
+    }
+    let made = |node: &Node| node.entry.map_or(0, |entry| entry.made);
+    if made(a) != made(b) {
+        return made(a).cmp(&made(b));
     }
     for (&x, &y) in a.rows.iter().zip(&b.rows) {
         if x != y {
@@ -134,10 +149,12 @@ pub fn node_order(rows: &[Row], a: &Node, b: &Node) -> Ordering {
     a.rows.len().cmp(&b.rows.len())
 }
 
-/// Whether the last numeral of `path` equals one earlier.
-fn closes(rows: &[Row], path: &[usize]) -> bool {
-    let last = path[path.len() - 1];
-    path[..path.len() - 1].iter().any(|&k| rows[k - 1].numeral == rows[last - 1].numeral)
+/// The numeral of a row number in a path; row number 0 is the path's entry.
+fn numeral_at(rows: &[Row], entry: Option<IslandEntry>, k: usize) -> u32 {
+    match k {
+        0 => entry.expect("row number 0 stands for an entry").numeral,
+        _ => rows[k - 1].numeral,
+    }
 }
 
 /// Whether a path of `length` rows is allowed by the depth.
@@ -156,26 +173,51 @@ struct Lister<'a> {
     depth: Option<i32>,
     orphan: bool,
     /// Rows in front that don't count when closing is judged.
-    front: usize,
+    front: Vec<usize>,
+    /// The entry that row number 0 stands for.
+    entry: Option<IslandEntry>,
     fits: &'a dyn Fn(usize) -> bool,
     found: Vec<Node>,
 }
 
 impl Lister<'_> {
+    fn numeral(&self, k: usize) -> u32 {
+        numeral_at(self.rows, self.entry, k)
+    }
+
+    /// Whether the last numeral of `path` equals one earlier. An entry's numeral counts.
+    fn closes(&self, path: &[usize]) -> bool {
+        let counted = &path[self.front.len()..];
+        let (last, earlier) = counted.split_last().expect("a path has rows behind the front");
+        earlier.iter().any(|&k| self.numeral(k) == self.numeral(*last))
+    }
+
+    /// Lists the path of the front and row number `k`, and its extensions.
+    fn list_from(&mut self, k: usize) -> bool {
+        let mut path = self.front.clone();
+        path.push(k);
+        self.list(&mut path)
+    }
+
     /// Gives false once the nodes found don't fit.
     fn list(&mut self, path: &mut Vec<usize>) -> bool {
         if !within_depth(path.len(), self.depth) {
             return true;
         }
-        let closing = closes(self.rows, &path[self.front..]);
-        self.found.push(Node { rows: path.clone(), orphan: self.orphan, closing });
+        let closing = self.closes(path);
+        self.found.push(Node {
+            rows: path.clone(),
+            entry: self.entry,
+            orphan: self.orphan,
+            closing,
+        });
         if !(self.fits)(self.found.len()) {
             return false;
         }
         if closing {
             return true;
         }
-        let numeral = self.rows[path[path.len() - 1] - 1].numeral;
+        let numeral = self.numeral(path[path.len() - 1]);
         for k in 1..=self.rows.len() {
             if self.allowed[k - 1] && self.rows[k - 1].parent == numeral {
                 path.push(k);
@@ -188,12 +230,107 @@ impl Lister<'_> {
         }
         true
     }
+
+    /// Lists the orphan paths, from the top orphans and then from entries; `unreached` is U by place.
+    /// Refusals 8 and 9. Without a start row under adopt there are no paths before refusal 8.
+    fn list_orphans(
+        &mut self,
+        top_orphans: &[usize],
+        unreached: Vec<bool>,
+        nobody_adopts: bool,
+    ) -> Result<(), u32> {
+        if nobody_adopts && !top_orphans.is_empty() {
+            return Err(8);
+        }
+        self.orphan = true;
+        self.allowed = unreached.clone();
+        for &k in top_orphans {
+            if !self.list_from(k) {
+                return Err(9);
+            }
+        }
+
+        // I: the rows of U that end no orphan path.
+        let mut island = unreached;
+        take_out(&mut island, &self.found);
+        if nobody_adopts && island.contains(&true) {
+            return Err(8);
+        }
+        if !self.list_islands(island) {
+            return Err(9);
+        }
+        Ok(())
+    }
+
+    /// Lists the paths from entries, `island` being I by place. For each entry "the row of I with the
+    /// lowest row number" is taken whose numeral lies on a ring of rows of I; the row itself needn't
+    /// be one of the ring's. Rows are looked at once, in number order: I only loses rows, so that a
+    /// row passed over is never taken at a later step, and one taken has its numeral on no ring then.
+    fn list_islands(&mut self, mut island: Vec<bool>) -> bool {
+        let mut below: HashMap<u32, Vec<usize>> = HashMap::new();
+        for (place, row) in self.rows.iter().enumerate() {
+            below.entry(row.parent).or_default().push(place + 1);
+        }
+        let mut made = 0;
+        for k in 1..=self.rows.len() {
+            let numeral = self.rows[k - 1].numeral;
+            if !island[k - 1] || !reaches_itself(self.rows, &below, &island, numeral) {
+                continue;
+            }
+            made += 1;
+            self.entry = Some(IslandEntry { made, numeral });
+            // "Paths go on from it by the rows still in I at that step."
+            self.allowed = island.clone();
+            let before = self.found.len();
+            if !self.list_from(0) {
+                return false;
+            }
+            take_out(&mut island, &self.found[before..]);
+        }
+        assert!(!island.contains(&true), "the step repeats until I is empty");
+        true
+    }
+}
+
+/// Takes the last rows of `nodes` out of a set of rows, held by place. An entry is no row of it.
+fn take_out(set: &mut [bool], nodes: &[Node]) {
+    for node in nodes {
+        let last = node.rows[node.rows.len() - 1];
+        if last != 0 {
+            set[last - 1] = false;
+        }
+    }
+}
+
+/// Whether `numeral` "can be reached from itself by rows of I": it lies on a ring of one row or more.
+/// `below` has the row numbers under each numeral, and `island` is I by place.
+fn reaches_itself(
+    rows: &[Row],
+    below: &HashMap<u32, Vec<usize>>,
+    island: &[bool],
+    numeral: u32,
+) -> bool {
+    let mut reached: HashSet<u32> = HashSet::new();
+    let mut waiting = vec![numeral];
+    while let Some(at) = waiting.pop() {
+        for &k in below.get(&at).into_iter().flatten().filter(|&&k| island[k - 1]) {
+            let next = rows[k - 1].numeral;
+            if next == numeral {
+                return true;
+            }
+            if reached.insert(next) {
+                waiting.push(next);
+            }
+        }
+    }
+    false
 }
 
 /// The nodes over `rows`, whose numerals are all 1 or more, in preorder.
 ///
 /// Refusals 8 and 9; `fits` says whether a number of nodes fits, and when one
-/// number doesn't no larger one does. Refusals 6 and 7 must be settled before.
+/// number doesn't no larger one does. Refusals 6 and 7 must be settled before,
+/// so that under adopt and root there is no depth.
 pub fn forest(
     rows: &[Row],
     orphan: u32,
@@ -210,28 +347,26 @@ pub fn forest(
     let mut start_rows: Vec<usize> = all.iter().copied().filter(|&k| is_start(k)).collect();
     start_rows.sort_by(|&a, &b| sibling_order(rows, a, b));
 
-    let mut regular = Lister {
+    let mut lister = Lister {
         rows,
         allowed: vec![true; rows.len()],
         depth,
         orphan: false,
-        front: 0,
+        front: Vec::new(),
+        entry: None,
         fits,
         found: Vec::new(),
     };
     for &k in &start_rows {
         // A stop here means a start row, so refusal 8 can't come first.
-        if !regular.list(&mut vec![k]) {
+        if !lister.list_from(k) {
             return Err(9);
         }
     }
-    let mut nodes = regular.found;
 
-    let mut ends = vec![false; rows.len()];
-    for node in &nodes {
-        ends[node.rows[node.rows.len() - 1] - 1] = true;
-    }
-    let unreached: Vec<usize> = all.iter().copied().filter(|&k| !ends[k - 1]).collect();
+    let mut in_unreached = vec![true; rows.len()];
+    take_out(&mut in_unreached, &lister.found);
+    let unreached: Vec<usize> = all.iter().copied().filter(|&k| in_unreached[k - 1]).collect();
     let is_top = |k: usize| {
         let parent = rows[k - 1].parent;
         parent == 0 || rows.iter().all(|row| row.numeral != parent)
@@ -239,35 +374,16 @@ pub fn forest(
     let mut top_orphans: Vec<usize> = unreached.iter().copied().filter(|&k| is_top(k)).collect();
     top_orphans.sort_by(|&a, &b| sibling_order(rows, a, b));
 
-    if orphan == ADOPT && !top_orphans.is_empty() && start_rows.is_empty() {
-        return Err(8);
-    }
-
     if orphan == ADOPT || orphan == ROOT {
-        let mut front: Vec<usize> = Vec::new();
         if orphan == ADOPT {
-            // The last start row in sibling order; without one there is no top orphan to adopt.
-            front.extend(start_rows.last());
+            // The last start row in sibling order; without one refusal 8 leaves nothing to adopt.
+            lister.front.extend(start_rows.last());
         }
-        let mut lister = Lister {
-            rows,
-            allowed: ends.iter().map(|end| !end).collect(),
-            depth: None,
-            orphan: true,
-            front: front.len(),
-            fits,
-            found: nodes,
-        };
-        for &k in &top_orphans {
-            let mut path = front.clone();
-            path.push(k);
-            if !lister.list(&mut path) {
-                return Err(9);
-            }
-        }
-        nodes = lister.found;
+        let nobody_adopts = orphan == ADOPT && start_rows.is_empty();
+        lister.list_orphans(&top_orphans, in_unreached, nobody_adopts)?;
     }
 
+    let mut nodes = lister.found;
     if !fits(nodes.len()) {
         return Err(9);
     }
@@ -275,18 +391,25 @@ pub fn forest(
     Ok(Forest { nodes, start_rows, unreached, top_orphans })
 }
 
+/// The first `length` rows of a node's path, with the entry if it is among them: paths from two
+/// entries differ although both have row number 0.
+fn beginning(node: &Node, length: usize) -> (Option<IslandEntry>, &[usize]) {
+    let rows = &node.rows[..length];
+    (if rows.contains(&0) { node.entry } else { None }, rows)
+}
+
 /// The bodies of the nodes, in rank order.
 pub fn bodies(rows: &[Row], nodes: &[Node]) -> Vec<Body> {
-    let mut rank_of: HashMap<&[usize], usize> = HashMap::new();
+    let mut rank_of: HashMap<(Option<IslandEntry>, &[usize]), usize> = HashMap::new();
     for (place, node) in nodes.iter().enumerate() {
-        rank_of.insert(&node.rows, place + 1);
+        rank_of.insert(beginning(node, node.rows.len()), place + 1);
     }
 
     // The parent is the path without its last row.
     let mut parents = vec![0; nodes.len() + 1];
     for (place, node) in nodes.iter().enumerate() {
         if node.rows.len() > 1 {
-            parents[place + 1] = rank_of[&node.rows[..node.rows.len() - 1]];
+            parents[place + 1] = rank_of[&beginning(node, node.rows.len() - 1)];
         }
     }
 
@@ -305,11 +428,11 @@ pub fn bodies(rows: &[Row], nodes: &[Node]) -> Vec<Body> {
         let rank = place + 1;
         let last = node.rows[node.rows.len() - 1];
         list.push(Body {
-            numeral: rows[last - 1].numeral,
+            numeral: numeral_at(rows, node.entry, last),
             row: last as u32,
             size: sizes[rank],
             parent: parents[rank] as u32,
-            root: rank_of[&node.rows[..1]] as u32,
+            root: rank_of[&beginning(node, 1)] as u32,
             level: node.rows.len() as u32,
             closing: node.closing,
             orphan: node.orphan,
@@ -363,10 +486,20 @@ fn attempt(
 
     let mut ends = vec![false; rows.len()];
     for body in &bodies {
-        ends[body.row as usize - 1] = true;
+        if body.row != 0 {
+            ends[body.row as usize - 1] = true;
+        }
     }
     let left = ends.iter().filter(|end| !**end).count();
     Ok((bodies, left as u32))
+}
+
+/// The minutes of a node: those of its last row, and 0 of an entry.
+fn minutes(rows: &[Row], body: &Body) -> i64 {
+    match body.row {
+        0 => 0,
+        row => rows[row as usize - 1].minutes as i64,
+    }
 }
 
 /// Builds the index image and the running totals over `rows`, whose numerals
@@ -391,7 +524,7 @@ pub fn build(
                     index[CONTENTS + BODY * place + word] = *value;
                     check += *value as u64;
                 }
-                total += rows[body.row as usize - 1].minutes as i64;
+                total += minutes(rows, body);
                 totals[place + 1] = total;
             }
             let contents = [n as u32, 8, 6, (check % (1 << 32)) as u32, 0, 0, 0, 0];

@@ -22,7 +22,7 @@ pub mod navigation;
 
 pub use board::{Board, Edited, Entry, Row};
 pub use check::index_check;
-pub use forest::{build, build_board, Body, Built, Forest, Node, Options, Start};
+pub use forest::{build, build_board, Body, Built, Forest, IslandEntry, Node, Options, Start};
 pub use listing::numerals;
 pub use machine::{Call, Machine};
 pub use navigation::{

@@ -80,14 +80,15 @@ fn ring_of_two_entered_at_a_start_row() {
 }
 
 #[test]
-fn islands_end_no_node() {
+fn islands_end_nodes_under_adopt_and_root_only() {
     // A ring of two, a row that hangs from it, a self ring.
     let rows = [row(2, 1, 1), row(1, 2, 1), row(2, 3, 1), row(9, 9, 1)];
     assert_eq!(build_all(&rows, 0, None, Start::ParentZero).built, accepted(0, 4));
     assert_eq!(build_all(&rows, 1, None, Start::ParentZero).built, refused(12));
-    // No top orphan, so adopt needs no start row.
-    assert_eq!(build_all(&rows, 2, None, Start::ParentZero).built, accepted(0, 4));
-    assert_eq!(build_all(&rows, 3, None, Start::ParentZero).built, accepted(0, 4));
+    // No top orphan, but islands need a start row as well.
+    assert_eq!(build_all(&rows, 2, None, Start::ParentZero).built, refused(8));
+    // Two entries, and each row once.
+    assert_eq!(build_all(&rows, 3, None, Start::ParentZero).built, accepted(6, 0));
 }
 
 #[test]
@@ -1636,7 +1637,7 @@ fn its_index_holds_2_700_nodes() {
     assert_eq!(output.lines().last(), Some("2700 1 2647 2 2647 0 0 2 1"));
     prints(&format!("{text}0 3 1 1\n"), "refused 9\n");
     prints(&format!("{text}8 3 1 1\n"), "refused 9\n");
-    prints(&format!("{text}3 3 1 1\n"), &output);
+    prints(&format!("{text}3 3 1 1\n"), "refused 9\n");
 }
 
 #[test]

@@ -62,6 +62,27 @@ fn leaves() -> Vec<Row> {
     (1..=1_024).map(|number| Row::new(0, number, 1, 1)).collect()
 }
 
+/// Rings of two rows: as many entries as fit but for rings of one row.
+fn rings() -> Vec<Row> {
+    (1..=1_024).map(|number| Row::new(((number - 1) ^ 1) + 1, number, number * 7 % 13, 1)).collect()
+}
+
+/// A ring of 512 rows with one more row below each: one entry, and the longest way round that leaves room for them.
+fn ring_with_leaves() -> Vec<Row> {
+    let row = |number, parent| Row::new(parent, number, number * 7 % 13, 1);
+    let ring = (1..=512).map(|number| row(number, if number == 1 { 512 } else { number - 1 }));
+    ring.chain((513..=1_024).map(|number| row(number, number - 512))).collect()
+}
+
+/// A chain of 1,022 rows below a ring of two rows that come last: each row of the chain is asked whether its numeral is
+/// on a ring before the ring is found, and has all later rows of the chain below it.
+fn chain_below_a_ring() -> Vec<Row> {
+    let mut rows: Vec<Row> = (1..=1_022).map(|number| Row::new(number - 1, number, 1, 1)).collect();
+    rows[0].parent = 1_024;
+    rows.extend([Row::new(1_024, 1_023, 1, 1), Row::new(1_023, 1_024, 1, 1)]);
+    rows
+}
+
 fn small() -> Vec<Row> {
     (1..=10).map(|number| Row::new(number / 2, number, 1, 1)).collect()
 }
@@ -304,6 +325,9 @@ fn main() {
     builds("build, chain", &chain(), 0, 20);
     builds("build, leaf roots", &leaves(), 0, 20);
     builds("build, cyclic", &cyclic(), 0, 20);
+    builds("build, 512 rings of two rows, as roots", &rings(), 3, 20);
+    builds("build, ring of 512 rows with a row on each, as roots", &ring_with_leaves(), 3, 20);
+    builds("build, worst board for the ring test, as roots", &chain_below_a_ring(), 3, 2);
     builds("build, small", &small(), 0, 200);
     edits();
     navigation();

@@ -25,6 +25,7 @@ fn main() {
     for round in 0..count {
         for _ in 0..100 {
             builds::cases(&mut random, &mut tally);
+            builds::islands(&mut random, &mut tally);
             navigation::calls(&mut random, &mut tally);
             navigation::checks(&mut random, &mut tally);
         }
