@@ -1,8 +1,8 @@
 -- The branches of a build of rows give the paper's answer. Assumes nothing.
 use mathlib.Core.Path.{_≡_, refl, sym, ap, ap₂, _∙_}
-use mathlib.Core.Logic.{inl, ⊎-elim}
+use mathlib.Core.Logic.{_⊎_, inl, inr, ⊎-elim, _≢_}
 use mathlib.Core.Bool.{Bool, true, false, cond, not, _&&_}
-use mathlib.Core.List.{List, [], _∷_, map, append-nil}
+use mathlib.Core.List.{List, [], _∷_, map}
 use Prim.Native.Nat.{ℕ, zero, suc, _≤_, _<_}
 use native.Mathlib.Omega.{arith}
 use native.Mathlib.Decide.{decLt}
@@ -11,33 +11,38 @@ use lib.Dec.{eqb}
 use lib.IntN.{ℤ, pos}
 use lib.ListN.{List·getD-eq-default, length, getD, replicate, length-replicate, getD-replicate}
 use Rattle.lists.specs.Lists.{_∈_, filter, numbers, totalsFrom, front}
-use Rattle.lists.specs.MemberLaws.{append-out, map-out, filter-in, filter-out, numbers-in, numbers-out}
+use Rattle.lists.specs.MemberLaws.{filter-in, filter-out, numbers-in, numbers-out}
 use Rattle.rows.specs.declared.Row.{Row}
 use Rattle.image.specs.declared.Body.{Body}
 use Rattle.image.specs.Layout.{imageWords}
 use Rattle.options.specs.declared.Depth.{Depth}
+use Rattle.options.specs.declared.Depth.the-variants.{None}
 use Rattle.options.specs.ChoiceLayer.{choiceOf}
 use Rattle.options.specs.Options.{orphanOf, multiOf, cycleOf}
 use Rattle.paths.specs.Forest.{memb}
-use Rattle.paths.specs.Rows.{num}
-use Rattle.paths.specs.Paths.{last, closes, Orphan, error}
-use Rattle.paths.specs.Nodes.{sorted, starts, regular, orphanRows, orphanNodes, tops, nodes}
-use Rattle.paths.specs.Bodies.{body, orphanCloses, bodies, leftOf}
-use Rattle.paths.specs.Refusals.{orphanChoice, isEmpty, refusal6, refusal7, refusal8, refusal9, refusal10, refusal11, refusal12, refusalOf}
+use Rattle.paths.specs.Paths.{last, Orphan, error}
+use Rattle.paths.specs.Nodes.{sorted, starts, regular, orphanRows, tops}
+use Rattle.islands.specs.Entries.{islands}
+use Rattle.nodes.specs.Nodes.{entriesOf, nodes}
+use Rattle.nodes.specs.Bodies.{bodies, leftOf}
+use Rattle.nodes.specs.Refusals.{orphanChoice, isEmpty, refusal6, refusal7, refusal8, refusal9, refusal10, refusal11, refusal12, refusalOf}
 use Rattle.paths.specs.SiblingLaws.{sorted-is}
-use Rattle.paths.specs.BodyLaws.{bodies-length, bodies-rows, totals-bodies, left-bodies}
-use Rattle.paths.specs.BoundLaws.{bodies-bounded}
+use Rattle.nodes.specs.BodyLaws.{regular-rows, bodies-length, totals-bodies, left-bodies}
+use Rattle.nodes.specs.BodyWalkLaws.{bodies-error}
+use Rattle.nodes.specs.EntryRefusalLaws.{entry-shares}
+use Rattle.nodes.specs.LeftLaws.{accepted-leaves-none}
+use Rattle.nodes.specs.BoundLaws.{bodies-bounded, numeral-of, named}
 use Rattle.request.specs.declared.Built.{Built}
 use Rattle.request.specs.Build.{answerOf}
 use Rattle.request.specs.RefusedLayer.{refusedBy}
 use Rattle.table.specs.TableLayer.{rowColumn, parentColumn, numeralColumn, classColumn}
 use Rattle.walk.specs.WalkLayer.{Walked, Clear}
-use Rattle.finish.specs.FinishLayer.{leftOver, lateRefusal, lateAnswer, bodyMinutes, NodesWritten, Classes, Finished}
+use Rattle.finish.specs.FinishLayer.{leftOver, lateRefusal, lateAnswer, bodyMinutes, BodiesOver, NodesWritten, Classes, Finished}
 use Rattle.links.specs.ChildrenLaws.{rows-long, class-long, class-below, class-iff}
-use Rattle.links.specs.PreparedLayer.{Prepared, StartFlags, WithNumerals}
+use Rattle.links.specs.PreparedLayer.{Prepared, StartFlags}
 use Rattle.options.specs.declared.Choice.{Choice}
 use Rattle.walk.specs.declared.Progress.{Progress}
-use Rattle.enumerate.specs.EnumerateLayer.{RowsKept}
+use Rattle.rings.specs.RingsLayer.{RowsKept}
 use Rattle.refusals.specs.TestsLayer.{capacityOf, lacksStart, earlyRefusal}
 use Rattle.refusals.specs.TestsLaws.{capacity-fits, capacity-over, capacity-bounds, early-clear, early-met}
 use Rattle.assemble.specs.AssembledLayer.{RowsBuilt}
@@ -59,11 +64,11 @@ module _ (R : List Row) (code : ℕ) (depth : Depth) (start : Row → Bool) (wor
     bs : List Body
     bs = bodies R start depth (orphanChoice (orphanOf code))
 
-    pub by-eight : refusal8 (orphanOf code) (tops R start depth) (starts R start) ≡ true → refusalOf R code depth start words totals ≡ 8
+    pub by-eight : refusal8 (orphanOf code) (tops R start depth) (islands R start) (starts R start) ≡ true → refusalOf R code depth start words totals ≡ 8
     unfolding refusalOf
     by-eight e = simp (six, seven, e)
 
-    module _ (eight : refusal8 (orphanOf code) (tops R start depth) (starts R start) ≡ false) where
+    module _ (eight : refusal8 (orphanOf code) (tops R start depth) (islands R start) (starts R start) ≡ false) where
       pub by-nine : refusal9 (length (bodies R start depth (orphanChoice (orphanOf code)))) words totals ≡ true → refusalOf R code depth start words totals ≡ 9
       unfolding refusalOf
       by-nine e = simp (six, seven, eight, e)
@@ -74,9 +79,8 @@ module _ (R : List Row) (code : ℕ) (depth : Depth) (start : Row → Bool) (wor
       unfolding refusalOf
       by-late e = simp (six, seven, eight, e)
 
-error-rows : (R : List Row) (start : Row → Bool) (depth : Depth) → map last (nodes R start depth error) ≡ map last (regular R start depth)
-unfolding nodes orphanNodes
-error-rows R start depth = ap (map last) (append-nil (regular R start depth))
+error-rows : (R : List Row) (start : Row → Bool) (depth : Depth) → map (λ (b : Body). b .row) (bodies R start depth error) ≡ map last (regular R start depth)
+error-rows R start depth = ap (map (λ (b : Body). b .row)) (bodies-error R start depth) ∙ regular-rows R start depth false 0 0 1 1
 
 -- ---- 12: under error the rows of U are the rows that end no node
 
@@ -87,7 +91,7 @@ unreached-left R start depth =
     same f (filter f (sorted R)) (filter f (numbers 1 (length R)))
     (λ x m. let q = filter-out f (sorted R) x m in let r = sorted-is R x .0 (q .0) in filter-in f (numbers 1 (length R)) x (numbers-in 1 (length R) x (r .0) (omega (arith, r))) (q .1))
     (λ x m. let q = filter-out f (numbers 1 (length R)) x m in let r = numbers-out 1 (length R) x (q .0) in filter-in f (sorted R) x (sorted-is R x .1 (omega (arith, r))) (q .1))
-    ∙ ap (λ (l : List ℕ). eqb (length (filter (λ x. not (memb x l)) (numbers 1 (length R)))) 0) (sym (bodies-rows R start depth error ∙ error-rows R start depth))
+    ∙ ap (λ (l : List ℕ). eqb (length (filter (λ x. not (memb x l)) (numbers 1 (length R)))) 0) (sym (error-rows R start depth))
   where
     same : (f : ℕ → Bool) (l m : List ℕ) → ((x : ℕ) → x ∈ l → x ∈ m) → ((x : ℕ) → x ∈ m → x ∈ l) → isEmpty l ≡ eqb (length m) 0
     same f [] [] a b = refl
@@ -97,14 +101,14 @@ unreached-left R start depth =
 
 -- ---- the tests before the walk
 
-module _ (R : List Row) (code : ℕ) (depth : Depth) (start : Row → Bool) (t : List ℕ) (prepared : Prepared R t) (flags-are : StartFlags R start t) (numbered : WithNumerals R)
+module _ (R : List Row) (code : ℕ) (depth : Depth) (start : Row → Bool) (t : List ℕ) (prepared : Prepared R t) (flags-are : StartFlags R start t)
     (choice : Choice) (choice-is : choice ≡ choiceOf code) where
-  eight-is : lacksStart (choice .orphan) t ≡ refusal8 (orphanOf code) (tops R start depth) (starts R start)
-  eight-is = lacks-start R start t prepared flags-are numbered depth (choice .orphan) ∙ ap (λ (c : Choice). refusal8 (c .orphan) (tops R start depth) (starts R start)) choice-is
+  eight-is : lacksStart (choice .orphan) t ≡ refusal8 (orphanOf code) (tops R start depth) (islands R start) (starts R start)
+  eight-is = lacks-start R start t prepared flags-are depth (choice .orphan) ∙ ap (λ (c : Choice). refusal8 (c .orphan) (tops R start depth) (islands R start) (starts R start)) choice-is
 
   module _ (q words totals : ℕ) (q-is : q ≡ earlyRefusal (lacksStart (choice .orphan) t) words totals) where
     -- no test was met
-    pub early-start : q ≡ 0 → refusal8 (orphanOf code) (tops R start depth) (starts R start) ≡ false
+    pub early-start : q ≡ 0 → refusal8 (orphanOf code) (tops R start depth) (islands R start) (starts R start) ≡ false
     early-start e = sym eight-is ∙ early-clear _ words totals (sym q-is ∙ e) .0
 
   -- a test was met
@@ -137,14 +141,34 @@ marks-none n marks e c = ap (λ (l : List ℕ). getD l c 0) e ∙ go (decLt c n)
 
 -- ---- the nodes as they are written
 
-numeral-of : (R : List Row) (start : Row → Bool) (depth : Depth) (o : Orphan) (b : Body) → b ∈ bodies R start depth o → b .numeral ≡ num R (b .row)
-unfolding bodies
-numeral-of R start depth o b m =
-    let W : List (List ℕ) = nodes R start depth o in
-    ⊎-elim
-    (λ k. let q = map-out (λ p. body R W false (closes R p) p) (regular R start depth) b k in ap (λ (x : Body). x .numeral) (q .2) ∙ sym (ap (λ (x : Body). num R (x .row)) (q .2)))
-    (λ k. let q = map-out (λ p. body R W true (orphanCloses R o p) p) (orphanNodes R start depth o) b k in ap (λ (x : Body). x .numeral) (q .2) ∙ sym (ap (λ (x : Body). num R (x .row)) (q .2)))
-    (append-out (map (λ p. body R W false (closes R p) p) (regular R start depth)) (map (λ p. body R W true (orphanCloses R o p) p) (orphanNodes R start depth o)) b m)
+-- what finishing asks of the bodies
+bodies-over : (R : List Row) (start : Row → Bool) (depth : Depth) (o : Orphan) → BodiesOver R (bodies R start depth o)
+bodies-over R start depth o = record {
+  row-high = λ b m. bodies-bounded R start depth o b m .row-high;
+  numeral-of = numeral-of R start depth o;
+  entries-share = λ b m z multi n h. entry-shares R start depth o b m z multi (one-or-two multi n h);
+}
+  where
+    one-or-two : (k : ℕ) → k ≢ 0 → k ≤ 2 → (k ≡ 1) ⊎ (k ≡ 2)
+    one-or-two zero n h = absurd (n refl)
+    one-or-two (suc zero) n h = inl refl
+    one-or-two (suc (suc zero)) n h = inr refl
+    one-or-two (suc (suc (suc k))) n h = absurd (omega arith)
+
+no-entries : (R : List Row) (start : Row → Bool) (depth : Depth) (orphan : ℕ) → orphan ≤ 1 → entriesOf R start depth (orphanChoice orphan) ≡ []
+unfolding entriesOf
+no-entries R start depth zero h = refl
+no-entries R start depth (suc zero) h = refl
+no-entries R start depth (suc (suc k)) h = absurd (omega arith)
+
+-- under adopt and root no row is left over
+pub none-left : (R : List Row) (start : Row → Bool) (depth : Depth) (code : ℕ) (choice : Choice) → choice ≡ choiceOf code → (1 < choice .orphan → depth ≡ None)
+    → refusal8 (orphanOf code) (tops R start depth) (islands R start) (starts R start) ≡ false → 1 < choice .orphan → leftOver R (bodies R start depth (orphanChoice (choice .orphan))) ≡ 0
+none-left R start depth code choice e none eight h =
+    sym (left-bodies R start depth (orphanChoice (choice .orphan)))
+    ∙ ap (λ (d : Depth). leftOf R start d (orphanChoice (choice .orphan))) (none h)
+    ∙ accepted-leaves-none R start (choice .orphan) h
+    (ap₂ (λ (d : Depth) (c : Choice). refusal8 (c .orphan) (tops R start d) (islands R start) (starts R start)) (sym (none h)) e ∙ eight)
 
 -- the classes in a table whose rows and classes are as they were prepared
 pub classes-of : (R : List Row) (t t′ : List ℕ) → Prepared R t → RowsKept t t′ → Classes R (rowColumn t′) (classColumn t′)
@@ -157,30 +181,30 @@ classes-of R t t′ y k = rw (k .rows-same) (rw (k .classes-same) (record {
   same = class-iff R (rowColumn t) (parentColumn t) (numeralColumn t) (y .ordered) (classColumn t) (y .class-is);
 }))
 
-module _ (R : List Row) (start : Row → Bool) (depth : Depth) (o : Orphan) (words totals cap : ℕ) (long : 8 ≤ words) (some : 1 ≤ totals) (cap-is : cap ≡ capacityOf words totals)
-    (on on′ ix ix′ : List ℕ) (words-are : length ix ≡ words) (m : Progress) (w : Walked (bodies R start depth o) 0 cap 0 on on′ ix ix′ m) where
-  pub nodes-over : cap < m .count → refusal9 (length (bodies R start depth o)) words totals ≡ true
-  nodes-over h = capacity-over (length (bodies R start depth o)) words totals long some (omega (arith, w .count, cap-is))
+module _ (R : List Row) (start : Row → Bool) (depth : Depth) (orphan : ℕ) (words totals cap : ℕ) (long : 8 ≤ words) (some : 1 ≤ totals) (cap-is : cap ≡ capacityOf words totals)
+    (on on′ ix ix′ : List ℕ) (words-are : length ix ≡ words) (m : Progress) (w : Walked (bodies R start depth (orphanChoice orphan)) 0 cap 0 on on′ ix ix′ m) where
+  pub nodes-over : cap < m .count → refusal9 (length (bodies R start depth (orphanChoice orphan))) words totals ≡ true
+  nodes-over h = capacity-over (length (bodies R start depth (orphanChoice orphan))) words totals long some (omega (arith, w .count, cap-is))
 
   module _ (fit : m .count ≤ cap) where
-    count-is : m .count ≡ length (bodies R start depth o)
+    count-is : m .count ≡ length (bodies R start depth (orphanChoice orphan))
     count-is = omega (arith, w .count)
 
-    pub nodes-fit : refusal9 (length (bodies R start depth o)) words totals ≡ false
-    nodes-fit = capacity-fits (length (bodies R start depth o)) words totals long some (omega (arith, count-is, cap-is))
+    pub nodes-fit : refusal9 (length (bodies R start depth (orphanChoice orphan))) words totals ≡ false
+    nodes-fit = capacity-fits (length (bodies R start depth (orphanChoice orphan))) words totals long some (omega (arith, count-is, cap-is))
 
     pub nodes-few : m .count < totals
     nodes-few = omega (arith, capacity-bounds words totals long, cap-is)
 
-    pub nodes-written : NodesWritten R (bodies R start depth o) ix ix′ m
+    pub nodes-written : NodesWritten R orphan (bodies R start depth (orphanChoice orphan)) ix ix′ m
     nodes-written = record {
       count-is = count-is;
       check-is = w .check fit;
       few = omega (arith, count-is, capacity-bounds words totals long, cap-is);
       room = omega (arith, count-is, capacity-bounds words totals long, cap-is, words-are);
       written = w .written fit;
-      row-of = λ b k. bodies-bounded R start depth o b k .row-of;
-      numeral-of = numeral-of R start depth o;
+      over = bodies-over R start depth (orphanChoice orphan);
+      named = λ h. named R start depth (orphanChoice orphan) (no-entries R start depth orphan h);
     }
 
 -- the refusals after 9
@@ -198,7 +222,7 @@ late-is R start depth code =
     same true e = ap not (ap (λ (k : ℕ). eqb (leftOver R (bodies R start depth (orphanChoice k))) 0) (eqb-true (orphanOf code) 1 e) ∙ sym (unreached-left R start depth))
 
 module _ (R : List Row) (code : ℕ) (depth : Depth) (start : Row → Bool) (index index′ : List ℕ) (totals totals′ : List ℤ) (choice : Choice) (choice-is : choice ≡ choiceOf code)
-    (six : refusal6 code ≡ false) (seven : refusal7 (orphanOf code) depth ≡ false) (eight : refusal8 (orphanOf code) (tops R start depth) (starts R start) ≡ false) (r : Built) where
+    (six : refusal6 code ≡ false) (seven : refusal7 (orphanOf code) depth ≡ false) (eight : refusal8 (orphanOf code) (tops R start depth) (islands R start) (starts R start) ≡ false) (r : Built) where
   same-nodes : bodies R start depth (orphanChoice (choice .orphan)) ≡ bodies R start depth (orphanChoice (orphanOf code))
   same-nodes = ap (λ (c : Choice). bodies R start depth (orphanChoice (c .orphan))) choice-is
 

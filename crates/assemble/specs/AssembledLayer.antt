@@ -10,9 +10,9 @@ use Rattle.rows.specs.declared.Row.{Row}
 use Rattle.image.specs.Layout.{imageWords}
 use Rattle.options.specs.declared.Depth.{Depth}
 use Rattle.options.specs.Options.{orphanOf}
-use Rattle.paths.specs.Nodes.{nodes}
-use Rattle.paths.specs.Bodies.{bodies, runningTotals}
-use Rattle.paths.specs.Refusals.{orphanChoice, refusalOf}
+use Rattle.nodes.specs.Nodes.{withEntries, nodes}
+use Rattle.nodes.specs.Bodies.{bodies, runningTotals}
+use Rattle.nodes.specs.Refusals.{orphanChoice, refusalOf}
 use Rattle.links.specs.PreparedLayer.{Prepared, StartFlags, WithNumerals}
 use Rattle.request.specs.Build.{answerOf}
 use Rattle.request.specs.declared.Built.{Built}
@@ -22,7 +22,7 @@ module _ (R : List Row) (code : ℕ) (depth : Depth) (start : Row → Bool) wher
   pub record RowsBuilt (index index′ : List ℕ) (totals totals′ : List ℤ) (r : Built) : Type 0 where
     pub answer : r ≡ answerOf R code depth start (refusalOf R code depth start (length index) (length totals))
     pub index-is : refusalOf R code depth start (length index) (length totals) ≡ 0 → index′ ≡ front (imageWords (bodies R start depth (orphanChoice (orphanOf code)))) index
-    pub totals-are : refusalOf R code depth start (length index) (length totals) ≡ 0 → totals′ ≡ front (runningTotals R (nodes R start depth (orphanChoice (orphanOf code)))) totals
+    pub totals-are : refusalOf R code depth start (length index) (length totals) ≡ 0 → totals′ ≡ front (runningTotals (withEntries R start depth (orphanChoice (orphanOf code))) (nodes R start depth (orphanChoice (orphanOf code)))) totals
 
 -- rows with a numeral each are prepared in a table, the start rows flagged, and their minutes stand by row number
 pub record PreparedRows (R : List Row) (start : Row → Bool) (t : List ℕ) (minutes : List ℤ) : Type 0 where

@@ -9,7 +9,8 @@ ghost use Rattle.options.specs.ChoiceLayer.{choiceOf};
 ghost use Rattle.options.specs.Options.{orphanOf};
 ghost use Rattle.options.specs.declared.Depth.the-variants.{None};
 ghost use Rattle.paths.specs.Nodes.{starts, tops};
-ghost use Rattle.paths.specs.Refusals.{refusal6, refusal7, refusal8};
+ghost use Rattle.islands.specs.Entries.{islands};
+ghost use Rattle.nodes.specs.Refusals.{refusal6, refusal7, refusal8};
 ghost use Rattle.request.specs.Build.{startRule};
 ghost use Rattle.table.specs.TableLayer.{rowColumn};
 ghost use Rattle.links.specs.PreparedLayer.{WithNumerals};
@@ -37,7 +38,7 @@ fn write_nodes(
     requires { ⌜ AnyPreparedRows (now table) (now minutes) ⌝ }
     requires { ⌜ (choice .orphan ≤ 3) × (1 < choice .orphan → depth ≡ None) × (8 ≤ length (now index)) × (1 ≤ length (now totals)) × (cap ≡ capacityOf (length (now index)) (length (now totals))) ⌝ }
     requires { ⌜ ClearWorkspace (length (rowColumn (now table))) (now reached) (now marks) ⌝ }
-    ensures { λ r. ⌜ ((R : List Row) (start : Row → Bool) (code : ℕ) → PreparedRows R start (now (table .entry)) (now (minutes .entry)) → choice ≡ choiceOf code → refusal6 code ≡ false → refusal7 (orphanOf code) depth ≡ false → refusal8 (orphanOf code) (tops R start depth) (starts R start) ≡ false → RowsBuilt R code depth start (now (index .entry)) (now (index .exit)) (now (totals .entry)) (now (totals .exit)) r) ⌝ }
+    ensures { λ r. ⌜ ((R : List Row) (start : Row → Bool) (code : ℕ) → PreparedRows R start (now (table .entry)) (now (minutes .entry)) → choice ≡ choiceOf code → refusal6 code ≡ false → refusal7 (orphanOf code) depth ≡ false → refusal8 (orphanOf code) (tops R start depth) (islands R start) (starts R start) ≡ false → RowsBuilt R code depth start (now (index .entry)) (now (index .exit)) (now (totals .entry)) (now (totals .exit)) r) ⌝ }
 {
     let progress = enumerate::enumerate(choice.orphan, depth, cap, table, reached, marks, index);
     if cap < progress.count {

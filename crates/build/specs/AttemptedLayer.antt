@@ -13,13 +13,13 @@ use Rattle.request.specs.Build.{buildRefusal, builtOf}
 use Rattle.image.specs.Layout.{imageWords}
 use Rattle.options.specs.declared.Depth.{Depth}
 use Rattle.options.specs.Options.{orphanOf}
-use Rattle.paths.specs.Nodes.{nodes}
-use Rattle.paths.specs.Bodies.{bodies, runningTotals}
-use Rattle.paths.specs.Refusals.{orphanChoice}
+use Rattle.nodes.specs.Nodes.{withEntries, nodes}
+use Rattle.nodes.specs.Bodies.{bodies, runningTotals}
+use Rattle.nodes.specs.Refusals.{orphanChoice}
 use Rattle.request.specs.declared.Built.{Built}
 
 -- the answer of a build of a board; a refused one may leave anything
 pub record Attempted (b : Board) (code : ℕ) (depth : Depth) (start : Row → Bool) (index index′ : List ℕ) (totals totals′ : List ℤ) (r : Built) : Type 0 where
   pub answer : r ≡ builtOf b code depth start (length index) (length totals)
   pub index-is : buildRefusal b code depth start (length index) (length totals) ≡ 0 → index′ ≡ front (imageWords (bodies (rowsOf b) start depth (orphanChoice (orphanOf code)))) index
-  pub totals-are : buildRefusal b code depth start (length index) (length totals) ≡ 0 → totals′ ≡ front (runningTotals (rowsOf b) (nodes (rowsOf b) start depth (orphanChoice (orphanOf code)))) totals
+  pub totals-are : buildRefusal b code depth start (length index) (length totals) ≡ 0 → totals′ ≡ front (runningTotals (withEntries (rowsOf b) start depth (orphanChoice (orphanOf code))) (nodes (rowsOf b) start depth (orphanChoice (orphanOf code)))) totals

@@ -19,9 +19,9 @@ use Rattle.options.specs.declared.Depth.{Depth}
 use Rattle.options.specs.declared.Choice.{Choice}
 use Rattle.options.specs.ChoiceLayer.{choiceOf}
 use Rattle.options.specs.Options.{orphanOf}
-use Rattle.paths.specs.Nodes.{nodes}
-use Rattle.paths.specs.Bodies.{bodies, runningTotals}
-use Rattle.paths.specs.Refusals.{orphanChoice, refusal6, refusal7, refusalOf}
+use Rattle.nodes.specs.Nodes.{withEntries, nodes}
+use Rattle.nodes.specs.Bodies.{bodies, runningTotals}
+use Rattle.nodes.specs.Refusals.{orphanChoice, refusal6, refusal7, refusalOf}
 use Rattle.links.specs.PreparedLayer.{WithNumerals}
 use Rattle.request.specs.declared.Built.{Built}
 use Rattle.request.specs.Build.{answerOf, buildRefusal, builtOf, indexAfter, totalsAfter}
@@ -105,7 +105,7 @@ module _ (b : Board) (code : ℕ) (depth : Depth) (start : Row → Bool) (index 
   unfolding totalsAfter
   accepted-totals e =
       let z = sym refusal-is ∙ e in
-      w .totals-are z ∙ sym (ap (λ (t : Bool). cond t (front (runningTotals (rowsOf b) (nodes (rowsOf b) start depth (orphanChoice (orphanOf code)))) totals) (replicate (length totals) (pos 0))) (eq-eqb (buildRefusal b code depth start (length index) (length totals)) 0 z))
+      w .totals-are z ∙ sym (ap (λ (t : Bool). cond t (front (runningTotals (withEntries (rowsOf b) start depth (orphanChoice (orphanOf code))) (nodes (rowsOf b) start depth (orphanChoice (orphanOf code)))) totals) (replicate (length totals) (pos 0))) (eq-eqb (buildRefusal b code depth start (length index) (length totals)) 0 z))
 
   pub refused-index : (r .refusal ≡ 0 → ⊥) → (zeros : List ℕ) → zeros ≡ replicate (length index) 0 → zeros ≡ indexAfter b code depth start index (length totals)
   unfolding indexAfter
@@ -115,7 +115,7 @@ module _ (b : Board) (code : ℕ) (depth : Depth) (start : Row → Bool) (index 
   pub refused-totals : (r .refusal ≡ 0 → ⊥) → (zeros : List ℤ) → zeros ≡ replicate (length totals) (pos 0) → zeros ≡ totalsAfter b code depth start (length index) totals
   unfolding totalsAfter
   refused-totals n zeros e =
-      e ∙ sym (ap (λ (t : Bool). cond t (front (runningTotals (rowsOf b) (nodes (rowsOf b) start depth (orphanChoice (orphanOf code)))) totals) (replicate (length totals) (pos 0))) (ne-eqb (buildRefusal b code depth start (length index) (length totals)) 0 (λ z. n (refusal-is ∙ z))))
+      e ∙ sym (ap (λ (t : Bool). cond t (front (runningTotals (withEntries (rowsOf b) start depth (orphanChoice (orphanOf code))) (nodes (rowsOf b) start depth (orphanChoice (orphanOf code)))) totals) (replicate (length totals) (pos 0))) (ne-eqb (buildRefusal b code depth start (length index) (length totals)) 0 (λ z. n (refusal-is ∙ z))))
 
 pub attempt-as : (b : Board) (code : ℕ) (depth : Depth) (start : Row → Bool) (index index′ : List ℕ) (totals totals′ : List ℤ) (q : ℕ) (r : Built) → r ≡ refusedBy q
     → Attempted b code depth start index index′ totals totals′ (refusedBy q) → Attempted b code depth start index index′ totals totals′ r

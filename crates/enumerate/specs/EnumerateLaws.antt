@@ -5,79 +5,50 @@ use mathlib.Core.Bool.{Bool, true, false, cond}
 use mathlib.Core.List.{List, [], _∷_, _++_, map, append-assoc, append-nil}
 use Prim.Native.Nat.{ℕ, zero, suc, _+_, _-_, _*_, _%_, _^_, _≤_, _<_}
 use native.Mathlib.Numerals.{add-one}
+use native.Mathlib.Nat.{zero-add}
 use native.Mathlib.Omega.{arith}
 use native.Mathlib.Decide.{ℕ-discrete, decLt}
-use borrow.Author.Tests.{eq-eqb, ne-eqb}
+use borrow.Author.Tests.{eq-eqb}
 use lib.Dec.{T, eqb, eqb→eq}
 use lib.ListN.{length, getD, set, length-append, length-map}
-use lib.Seq.{sets, ext-getD, take-length}
+use lib.Seq.{sets, take-length}
 use Rattle.lists.specs.Choice.{bit}
-use Rattle.lists.specs.Lists.{_∈_, filter, keep, numbers}
-use Rattle.lists.specs.MemberLaws.{filter-none, map-append, numbers-out, getD-in}
-use Rattle.lists.specs.CountingLaws.{by-place, by-place-length}
-use Rattle.lists.specs.StoreLaws.{getD-mapped, getD-inside}
+use Rattle.lists.specs.Lists.{filter, keep, numbers}
+use Rattle.lists.specs.MemberLaws.{filter-none, map-append, numbers-out}
 use Rattle.rows.specs.declared.Row.{Row}
 use Rattle.image.specs.declared.Body.{Body}
-use Rattle.image.specs.Layout.{bodyAt, rowAt, bodyWords, flat}
-use Rattle.image.specs.ImageLaws.{length-flat}
+use Rattle.image.specs.Layout.{flat}
 use Rattle.options.specs.declared.Depth.{Depth}
 use Rattle.options.specs.declared.Depth.the-variants.{None}
 use Rattle.options.specs.Options.{levelLimit}
 use Rattle.paths.specs.Forest.{next}
 use Rattle.paths.specs.Rows.{row as boardRow, num, par}
-use Rattle.paths.specs.Paths.{last, ignore, adopt, root}
+use Rattle.paths.specs.Paths.{last, adopt, root}
 use Rattle.paths.specs.Nodes.{sorted, starts, regular, orphanRows, tops}
 use Rattle.paths.specs.EmitLayer.{emit, mkBody}
-use Rattle.paths.specs.Bodies.{bodies}
+use Rattle.nodes.specs.Bodies.{bodies}
 use Rattle.paths.specs.EmitLaws.{emit-nil}
-use Rattle.paths.specs.BodyWalkLaws.{bodies-ignore, bodies-error, bodies-root}
-use Rattle.paths.specs.AdoptWalkLaws.{bodies-adopt, bodies-adopt-none}
-use Rattle.paths.specs.BodyLaws.{regular-rows}
-use Rattle.paths.specs.BoundLaws.{bodies-bounded}
-use Rattle.paths.specs.Refusals.{orphanChoice}
+use Rattle.nodes.specs.BodyWalkLaws.{bodies-ignore, bodies-error, bodies-root}
+use Rattle.nodes.specs.AdoptWalkLaws.{bodies-adopt, bodies-adopt-none}
+use Rattle.nodes.specs.BodyLaws.{regular-rows}
+use Rattle.nodes.specs.Refusals.{orphanChoice}
 use Rattle.table.specs.TableLayer.{rowColumn, childColumn, flagColumn}
 use Rattle.table.specs.TableLaws.{column-length}
-use Rattle.links.specs.PreparedLayer.{Prepared, StartFlags}
+use Rattle.links.specs.PreparedLayer.{Prepared, StartFlags, WithNumerals}
 use Rattle.links.specs.StartLaws.{flagged-rows}
 use Rattle.orphans.specs.OutsideLayer.{lastFlag, lastBelow}
-use Rattle.passes.specs.PassesLayer.{Named, rowsTo}
+use Rattle.islands.specs.Entries.{islands, entries}
+use Rattle.islands.specs.EntryLayer.{entryWalks}
+use Rattle.passes.specs.PassesLayer.{rowsTo}
+use Rattle.passes.specs.PassesLaws.{rows-from-first, rows-written}
 use Rattle.walk.specs.WalkLayer.{Rows, rowsOf, rowOf, Clear, Walked, flagged}
 use Rattle.walk.specs.WalkLaws.{emit-append, walked-join, clear-marked}
 use Rattle.walk.specs.declared.Progress.{Progress}
+use Rattle.rings.specs.RingsLayer.{RowsKept}
 use Rattle.enumerate.specs.declared.StartProgress.{StartProgress}
-use Rattle.enumerate.specs.EnumerateLayer.{ClearWorkspace, RowsKept, Starting, StartsWalked, outside, topsAmong, orphanLevel, orphansFrom, Adopted}
+use Rattle.enumerate.specs.EnumerateLayer.{ClearWorkspace, Starting, StartsWalked, outside, topsAmong, orphanLevel, orphansFrom, outsideFrom, RegularWritten, Adopted}
 use Rattle.enumerate.specs.WalkJoinLaws.{flagged-split, walked-longer, written-sized, size-written, check-raised}
-use Rattle.enumerate.specs.OrphanLaws.{row-count, prepared-listed}
-
--- ---- the rows of the bodies written so far
-
-flat-row : (L : List Body) (k : ℕ) (d : Body) → k < length L → getD (flat L) (6 * k + 1) 0 ≡ getD L k d .row
-unfolding flat bodyWords
-flat-row [] k d h = absurd (omega arith)
-flat-row (b ∷ L) zero d h = refl
-flat-row (b ∷ L) (suc k) d h =
-    let e : 6 * suc k + 1 ≡ suc (suc (suc (suc (suc (suc (6 * k + 1)))))) = omega arith in
-    ap (λ (j : ℕ). getD (flat (b ∷ L)) j 0) e ∙ flat-row L k d (omega arith)
-
-abbrev noBody : Body
-noBody = record { numeral = 0; row = 0; size = 0; parent = 0; root = 0; level = 0; closing = false; orphan = false }
-
-pub row-written : (ix : List ℕ) (L : List Body) (k : ℕ) (d : Body) → 8 + 6 * length L ≤ length ix → k < length L → rowAt (sets ix 8 (flat L)) (1 + k) ≡ getD L k d .row
-row-written ix L k d room h =
-    let e : bodyAt (1 + k) + 1 ≡ 8 + (6 * k + 1) = omega arith in
-    ap (λ (j : ℕ). getD (sets ix 8 (flat L)) j 0) e
-    ∙ getD-inside ix 8 (flat L) (6 * k + 1) 0 (omega (arith, length-flat L)) (omega (arith, length-flat L))
-    ∙ flat-row L k d h
-
-pub rows-written : (ix : List ℕ) (L : List Body) → 8 + 6 * length L ≤ length ix → rowsTo (sets ix 8 (flat L)) (length L) ≡ map (λ (b : Body). b .row) L
-unfolding rowsTo
-rows-written ix L room =
-    ext-getD 0 (map (rowAt (sets ix 8 (flat L))) (numbers 1 (length L))) (map (λ (b : Body). b .row) L)
-    (by-place-length (rowAt (sets ix 8 (flat L))) 1 (length L) ∙ sym (length-map L (λ (b : Body). b .row)))
-    (λ i h. at i (omega (arith, by-place-length (rowAt (sets ix 8 (flat L))) 1 (length L))))
-  where
-    at : (i : ℕ) → i < length L → getD (map (rowAt (sets ix 8 (flat L))) (numbers 1 (length L))) i 0 ≡ getD (map (λ (b : Body). b .row) L) i 0
-    at i h = by-place (rowAt (sets ix 8 (flat L))) 1 (length L) i 0 h ∙ row-written ix L i noBody room h ∙ sym (getD-mapped (λ (b : Body). b .row) L i noBody 0 h)
+use Rattle.enumerate.specs.OrphanLaws.{row-count, prepared-listed, level-adopted}
 
 -- ---- the last flag
 
@@ -143,12 +114,25 @@ none-flagged flags n e h =
 abbrev regularFor : List Row → (Row → Bool) → Depth → List Body
 regularFor R start d = emit (mkBody R false) (num R) (par R) (sorted R) (levelLimit d (length R)) [] (starts R start) 0 0 1 1
 
+-- the islands' entries from rank k on
+abbrev enteredFor : List Row → (Row → Bool) → ℕ → ℕ → ℕ → List Body
+enteredFor R start rank level k = entryWalks R (islands R start) (entries R start) rank rank level k
+
 abbrev orphansFor : List Row → List ℕ → ℕ → ℕ → ℕ → List Body
 orphansFor R ends rank level k = emit (mkBody R true) (num R) (par R) (outside R ends) (suc (length R)) [] (topsAmong R ends) rank rank level k
 
-root-bodies : (R : List Row) (start : Row → Bool) → bodies R start None root ≡ regularFor R start None ++ orphansFor R (map last (regular R start None)) 0 1 (suc (length (regularFor R start None)))
+root-bodies : (R : List Row) (start : Row → Bool) (n : ℕ) → n ≡ length (regularFor R start None) → bodies R start None root ≡ regularFor R start None ++ outsideFrom R start 0 n
 unfolding levelLimit orphanRows tops
-root-bodies R start = bodies-root R start
+root-bodies R start n e = bodies-root R start ∙ ap₂ shape first-is (ap suc (ap₂ _+_ (sym e) (ap (λ (k : ℕ). length (O k)) first-is)) ∙ sym (add-one (n + length (O (n + 1)))))
+  where
+    O : ℕ → List Body
+    O k = orphansFor R (map last (regular R start None)) 0 1 k
+
+    shape : ℕ → ℕ → List Body
+    shape j k = regularFor R start None ++ (O j ++ enteredFor R start 0 1 k)
+
+    first-is : suc (length (regularFor R start None)) ≡ n + 1
+    first-is = ap suc (sym e) ∙ sym (add-one n)
 
 -- the start rows before the last, the last one's subtree
 abbrev firstFor : List Row → List ℕ → List Body
@@ -157,13 +141,36 @@ firstFor R s = emit (mkBody R false) (num R) (par R) (sorted R) (levelLimit None
 abbrev ownFor : List Row → ℕ → ℕ → List Body
 ownFor R a rank = emit (mkBody R false) (num R) (par R) (sorted R) (length R) (num R a ∷ []) (next (num R) (par R) (sorted R) [] a) rank rank 2 (suc rank)
 
-adopt-bodies : (R : List Row) (start : Row → Bool) (s : List ℕ) (a : ℕ) → starts R start ≡ s ++ (a ∷ []) → (rank k : ℕ) → rank ≡ suc (length (firstFor R s)) → k ≡ suc rank + length (ownFor R a rank)
-    → bodies R start None adopt ≡ firstFor R s ++ (mkBody R false a (suc (length (ownFor R a rank) + length (orphansFor R (map last (regular R start None)) rank 2 k))) 0 rank 1 false ∷ (ownFor R a rank ++ orphansFor R (map last (regular R start None)) rank 2 k))
+adopt-bodies : (R : List Row) (start : Row → Bool) (s : List ℕ) (a : ℕ) → starts R start ≡ s ++ (a ∷ []) → (rank n : ℕ) → rank ≡ suc (length (firstFor R s)) → n ≡ rank + length (ownFor R a rank)
+    → bodies R start None adopt ≡ firstFor R s ++ (mkBody R false a (suc (length (ownFor R a rank) + length (outsideFrom R start rank n))) 0 rank 1 false ∷ (ownFor R a rank ++ outsideFrom R start rank n))
 unfolding levelLimit orphanRows tops
-adopt-bodies R start s a e rank k r q =
+adopt-bodies R start s a e rank n r q =
     bodies-adopt R start s a e
-    ∙ ap₂ (λ (i j : ℕ). firstFor R s ++ (mkBody R false a (suc (length (ownFor R a i) + length (orphansFor R (map last (regular R start None)) i 2 j))) 0 i 1 false ∷ (ownFor R a i ++ orphansFor R (map last (regular R start None)) i 2 j)))
-    (sym r) (ap (λ (i : ℕ). suc i + length (ownFor R a i)) (sym r) ∙ sym q)
+    ∙ ap (λ (i : ℕ). shape i 2 (suc i + length (ownFor R a i))) (sym r)
+    ∙ ap (λ (j : ℕ). shape rank 2 j) next-is
+    ∙ ap (λ (l : ℕ). shape rank l (n + 1)) level
+    ∙ ap₂ (λ (k : ℕ) (z : ℕ). firstFor R s ++ (mkBody R false a (suc (length (ownFor R a rank) + z)) 0 rank 1 false ∷ (ownFor R a rank ++ (T ++ enteredFor R start rank (orphanLevel rank) k)))) last-is
+    (ap (λ (k : ℕ). length T + length (enteredFor R start rank (orphanLevel rank) k)) last-is ∙ sym (length-append T (enteredFor R start rank (orphanLevel rank) (n + length T + 1))))
+  where
+    O : ℕ → ℕ → ℕ → List Body
+    O i l j = orphansFor R (map last (regular R start None)) i l j
+
+    shape : ℕ → ℕ → ℕ → List Body
+    shape i l j =
+        firstFor R s
+        ++ (mkBody R false a (suc (length (ownFor R a i) + (length (O i l j) + length (enteredFor R start i l (j + length (O i l j)))))) 0 i 1 false ∷ (ownFor R a i ++ (O i l j ++ enteredFor R start i l (j + length (O i l j)))))
+
+    T : List Body
+    T = orphansFrom R (map last (regular R start None)) rank n
+
+    level : 2 ≡ orphanLevel rank
+    level = level-adopted rank (λ z. absurd (omega (arith, z)))
+
+    next-is : suc rank + length (ownFor R a rank) ≡ n + 1
+    next-is = omega arith
+
+    last-is : n + 1 + length T ≡ n + length T + 1
+    last-is = omega arith
 
 snoc-view : (l : List ℕ) → (l ≡ []) ⊎ ((s : List ℕ) × (a : ℕ) × (l ≡ s ++ (a ∷ [])))
 snoc-view [] = inl refl
@@ -195,14 +202,14 @@ regular-shorter R start depth (suc (suc zero)) low none =
     adopt-shorter (inr q) =
         let rank : ℕ = suc (length (firstFor R (q .0))) in
         let own : List Body = ownFor R (q .1) rank in
-        let k : ℕ = suc rank + length own in
-        let taken : List Body = orphansFor R (map last (regular R start None)) rank 2 k in
+        let n : ℕ = rank + length own in
+        let taken : List Body = outsideFrom R start rank n in
         let x : Body = mkBody R false (q .1) (suc (length own)) 0 rank 1 false in
         let y : Body = mkBody R false (q .1) (suc (length own + length taken)) 0 rank 1 false in
         omega (
           arith,
           ap length (adopt-regular R start (q .0) (q .1) (q .2) rank refl),
-          ap length (adopt-bodies R start (q .0) (q .1) (q .2) rank k refl refl),
+          ap length (adopt-bodies R start (q .0) (q .1) (q .2) rank n refl refl),
           length-append (firstFor R (q .0)) (x ∷ own),
           length-append (firstFor R (q .0)) (y ∷ (own ++ taken)),
           length-append own taken,
@@ -210,7 +217,7 @@ regular-shorter R start depth (suc (suc zero)) low none =
 regular-shorter R start depth (suc (suc (suc zero))) low none =
     let e : depth ≡ None = none (omega arith) in
     subst (λ (d : Depth). length (regularFor R start d) ≤ length (bodies R start d root)) (sym e)
-    (omega (arith, ap length (root-bodies R start), length-append (regularFor R start None) (orphansFor R (map last (regular R start None)) 0 1 (suc (length (regularFor R start None))))))
+    (omega (arith, ap length (root-bodies R start (length (regularFor R start None)) refl), length-append (regularFor R start None) (outsideFrom R start 0 (length (regularFor R start None)))))
 regular-shorter R start depth (suc (suc (suc (suc k)))) low none = absurd (omega arith)
 
 module _ (R : List Row) (start : Row → Bool) (depth : Depth) (t : List ℕ) (ready : Prepared R t) (flags-are : StartFlags R start t) where
@@ -301,37 +308,25 @@ module _ (R : List Row) (start : Row → Bool) (depth : Depth) (t : List ℕ) (r
       pub ends-are : rowsTo ix₁ (b .count) ≡ map last (regular R start depth)
       ends-are =
           ap₂ rowsTo (begun-walked .written fit) count-is
-          ∙ rows-written ix regular-bodies room
+          ∙ sym (rows-from-first (sets ix 8 (flat regular-bodies)) (length regular-bodies))
+          ∙ rows-written ix 0 (length regular-bodies) regular-bodies (sym (zero-add (length regular-bodies))) room
           ∙ regular-rows R start depth false 0 0 1 1
 
-      -- each body written has the number of one of the rows
-      pub begun-named : Named ix₁ (b .count) (length row)
-      begun-named k low high =
-          let L : List Body = regular-bodies in
-          let i : k - 1 < length L = omega (arith, count-is) in
-          let e : rowAt ix₁ k ≡ getD L (k - 1) noBody .row =
-          ap (λ (s : List ℕ). rowAt s k) (begun-walked .written fit) ∙ ap (λ (j : ℕ). rowAt (sets ix 8 (flat L)) j) (sym back) ∙ row-written ix L (k - 1) noBody room i in
-          let m : getD L (k - 1) noBody ∈ bodies R start depth ignore = subst (λ (l : List Body). getD L (k - 1) noBody ∈ l) (sym (bodies-ignore R start depth)) (getD-in L (k - 1) noBody i) in
-          let r = bodies-bounded R start depth ignore (getD L (k - 1) noBody) m .row-of in
-          (omega (arith, r), omega (arith, r, row-count R t ready))
-        where
-          back : 1 + (k - 1) ≡ k
-          back = omega arith
+      pub begun-written : depth ≡ None → WithNumerals R → RegularWritten R start t ix₁ (b .count)
+      begun-written none numbered = record { prepared = ready; numbered = numbered; ends-are = ends-are ∙ ap (λ (d : Depth). map last (regular R start d)) none }
 
-      -- root: the orphan paths as roots
-      pub root-walked : depth ≡ None → (on₂ ix₂ : List ℕ) (r : Progress) → Walked (orphansFrom R (rowsTo ix₁ (b .count)) 0 (b .count)) (b .count) cap (b .check) on₁ on₂ ix₁ ix₂ r
+      -- root: the orphan paths and the entries as roots
+      pub root-walked : depth ≡ None → (on₂ ix₂ : List ℕ) (r : Progress) → Walked (outsideFrom R start 0 (b .count)) (b .count) cap (b .check) on₁ on₂ ix₁ ix₂ r
           → Walked (bodies R start depth root) 0 cap 0 on on₂ ix ix₂ r
       root-walked none on₂ ix₂ r w =
           subst (λ (L : List Body). Walked L 0 cap 0 on on₂ ix ix₂ r) (sym (whole-is none))
-          (walked-join regular-bodies (orphansFrom R (rowsTo ix₁ (b .count)) 0 (b .count)) 0 cap 0 on on₁ on₂ ix ix₁ ix₂ regular-progress r begun-walked fit w)
+          (walked-join regular-bodies (outsideFrom R start 0 (b .count)) 0 cap 0 on on₁ on₂ ix ix₁ ix₂ regular-progress r begun-walked fit w)
         where
-          whole-is : depth ≡ None → bodies R start depth root ≡ regular-bodies ++ orphansFrom R (rowsTo ix₁ (b .count)) 0 (b .count)
+          whole-is : depth ≡ None → bodies R start depth root ≡ regular-bodies ++ outsideFrom R start 0 (b .count)
           whole-is e =
-              let k : suc (length (regularFor R start None)) ≡ b .count + 1 = ap (λ (d : Depth). suc (length (regularFor R start d))) (sym e) ∙ omega (arith, count-is) in
               ap (λ (d : Depth). bodies R start d root) e
-              ∙ root-bodies R start
-              ∙ ap (λ (j : ℕ). regularFor R start None ++ orphansFor R (map last (regular R start None)) 0 1 j) k
-              ∙ ap₂ (λ (d : Depth) (ends : List ℕ). regularFor R start d ++ orphansFor R ends 0 1 (b .count + 1)) (sym e) (ap (λ (d : Depth). map last (regular R start d)) (sym e) ∙ sym ends-are)
+              ∙ root-bodies R start (b .count) (count-is ∙ ap (λ (d : Depth). length (regularFor R start d)) e)
+              ∙ ap (λ (d : Depth). regularFor R start d ++ outsideFrom R start 0 (b .count)) (sym e)
 
       -- adopt, with a start row at the position last-is
       module _ (none : depth ≡ None) (last-flag : last-is ≡ lastFlag flags) (some : last-is < length row) where
@@ -390,25 +385,21 @@ module _ (R : List Row) (start : Row → Bool) (depth : Depth) (t : List ℕ) (r
             omega (arith, e, counted)
 
         taken : List Body
-        taken = orphansFrom R (rowsTo ix₁ (b .count)) (b .before + 1) (b .count)
+        taken = outsideFrom R start (b .before + 1) (b .count)
 
         whole-is : bodies R start depth adopt ≡ firstFor R s ++ (mine (suc (length own) + length taken) ∷ (own ++ taken))
         unfolding taken own mine rank
         whole-is =
-            let lev : orphanLevel (b .before + 1) ≡ 2 = ap (λ (t : Bool). cond t 1 2) (ne-eqb (b .before + 1) 0 (λ z. absurd (omega arith))) in
-            let k : b .count + 1 ≡ suc rank + length own = omega (arith, counted, before-first) in
-            let same : orphansFor R (map last (regular R start None)) rank 2 (b .count + 1) ≡ taken =
-            ap₂ (λ (ends : List ℕ) (l : ℕ). orphansFor R ends rank l (b .count + 1)) (ap (λ (d : Depth). map last (regular R start d)) (sym none) ∙ sym ends-are) (sym lev) in
-            let size : (T : List Body) → suc (length own + length T) ≡ suc (length own) + length T = λ (T : List Body). omega arith in
+            let n : b .count ≡ rank + length own = omega (arith, counted, before-first) in
+            let size : suc (length own + length taken) ≡ suc (length own) + length taken = omega arith in
             ap (λ (d : Depth). bodies R start d adopt) none
-            ∙ adopt-bodies R start s a starts-split rank (b .count + 1) rank-is k
-            ∙ ap (λ (T : List Body). firstFor R s ++ (mine (suc (length own + length T)) ∷ (own ++ T))) same
-            ∙ ap (λ (z : ℕ). firstFor R s ++ (mine z ∷ (own ++ taken))) (size taken)
+            ∙ adopt-bodies R start s a starts-split rank (b .count) rank-is n
+            ∙ ap (λ (z : ℕ). firstFor R s ++ (mine z ∷ (own ++ taken))) size
 
         joined : regular-bodies ++ taken ≡ firstFor R s ++ (mine (suc (length own)) ∷ (own ++ taken))
         joined = ap (λ (l : List Body). l ++ taken) regular-is ∙ append-assoc (firstFor R s) (mine (suc (length own)) ∷ own) taken
 
-        pub adopt-walked : (on₂ ix₂ : List ℕ) (r : Progress) → Adopted R cap b on₁ on₂ ix₁ ix₂ r → Walked (bodies R start depth adopt) 0 cap 0 on on₂ ix ix₂ r
+        pub adopt-walked : (on₂ ix₂ : List ℕ) (r : Progress) → Adopted R start cap b on₁ on₂ ix₁ ix₂ r → Walked (bodies R start depth adopt) 0 cap 0 on on₂ ix ix₂ r
         unfolding taken mine own
         adopt-walked on₂ ix₂ r q =
             subst (λ (L : List Body). Walked L 0 cap 0 on on₂ ix ix₂ r) (sym whole-is) (go (decLt cap (q .progress .count)))

@@ -1,4 +1,4 @@
-// The enumeration of a board's nodes: the regular paths, then under adopt and root the orphan paths.
+// The enumeration of a board's nodes: the regular paths, then under adopt and root the orphan paths and the entries of islands.
 ghost use mathlib.Core.Path.{_≡_};
 ghost use mathlib.Core.Bool.{Bool};
 ghost use mathlib.Core.List.{List};
@@ -8,11 +8,11 @@ ghost use Rattle.rows.specs.declared.Row.{Row};
 ghost use Rattle.options.specs.declared.Depth.the-variants.{None};
 ghost use Rattle.table.specs.TableLayer.{rowColumn, childColumn, flagColumn};
 ghost use Rattle.links.specs.PreparedLayer.{Prepared, StartFlags, WithNumerals, AnyPrepared};
-ghost use Rattle.passes.specs.PassesLayer.{Named, rowsTo};
-ghost use Rattle.paths.specs.Bodies.{bodies};
-ghost use Rattle.paths.specs.Refusals.{orphanChoice};
+ghost use Rattle.nodes.specs.Bodies.{bodies};
+ghost use Rattle.nodes.specs.Refusals.{orphanChoice};
 ghost use Rattle.walk.specs.WalkLayer.{Walkable, Walked, rowsOf};
-ghost use Rattle.enumerate.specs.EnumerateLayer.{ClearWorkspace, RowsKept, StartsWalked, orphanLevel, orphansFrom, Raised, Adopted};
+ghost use Rattle.rings.specs.RingsLayer.{RowsKept};
+ghost use Rattle.enumerate.specs.EnumerateLayer.{ClearWorkspace, StartsWalked, orphanLevel, TopsWalked, outsideFrom, RegularWritten, AnyRegularWritten, Raised, Adopted};
 use options::Depth;
 use walk::Bounds;
 use walk::Place;
@@ -67,27 +67,19 @@ fn level_under(rank: u32) -> u32
     if rank == 0 { 1 } else { 2 }
 }
 
-// Walks the orphan paths under the node of a rank, or as roots where the rank is 0.
-fn walk_orphans(
+// Walks the flagged rows of a table and what is below them as orphan paths, under the node of a rank, or as roots where the rank is 0.
+fn walk_tops(
     rank: u32,
     progress: Progress,
     cap: u32,
-    table: &mut [u32],
-    reached: &mut [u32],
+    table: &[u32],
     marks: &mut [u32],
     index: &mut [u32],
 ) -> Progress
-    requires { ⌜ AnyPrepared (now table) ⌝ }
-    requires { ⌜ (progress .count ≤ cap) × (cap ≤ 65535) × (8 + 6 * cap ≤ length (now index)) × Named (now index) (progress .count) (length (rowColumn (now table))) ⌝ }
-    requires { ⌜ ClearWorkspace (length (rowColumn (now table))) (now reached) (now marks) ⌝ }
-    ensures { λ r. ⌜ ((R : List Row) → Prepared R (now (table .entry)) → WithNumerals R → Walked (orphansFrom R (rowsTo (now (index .entry)) (progress .count)) rank (progress .count)) (progress .count) cap (progress .check) (now (marks .entry)) (now (marks .exit)) (now (index .entry)) (now (index .exit)) r) ⌝ }
-    ensures { λ _. ⌜ RowsKept (now (table .entry)) (now (table .exit)) ⌝ }
+    requires { ⌜ Walkable (rowsOf (now table)) (length (now marks)) × (length (rowColumn (now table)) ≤ 1024) ⌝ }
+    requires { ⌜ (progress .count ≤ cap) × (cap ≤ 65535) × (8 + 6 * cap ≤ length (now index)) ⌝ }
+    ensures { λ r. ⌜ TopsWalked (now (table .entry)) rank cap progress (now (marks .entry)) (now (marks .exit)) (now (index .entry)) (now (index .exit)) r ⌝ }
 {
-    passes::mark_rows(index, progress.count as usize, reached);
-    if passes::count_clear(reached) == 0 {
-        return progress;
-    }
-    orphans::link_outside(table, reached);
     let level = level_under(rank);
     let n = table::rows(table) as u32;
     let place = Place {
@@ -101,6 +93,52 @@ fn walk_orphans(
         cap: cap,
     };
     walk::roots(0, n, place, bounds, progress, table, marks, index)
+}
+
+// Walks the orphan paths and then the entries of the islands, under the node of a rank, or as roots where the rank is 0.
+fn walk_outside(
+    rank: u32,
+    progress: Progress,
+    cap: u32,
+    table: &mut [u32],
+    reached: &mut [u32],
+    marks: &mut [u32],
+    index: &mut [u32],
+) -> Progress
+    requires { ⌜ AnyRegularWritten (now table) (now index) (progress .count) ⌝ }
+    requires { ⌜ (progress .count ≤ cap) × (cap ≤ 65535) × (8 + 6 * cap ≤ length (now index)) ⌝ }
+    requires { ⌜ ClearWorkspace (length (rowColumn (now table))) (now reached) (now marks) ⌝ }
+    ensures { λ r. ⌜ ((R : List Row) (start : Row → Bool) → RegularWritten R start (now (table .entry)) (now (index .entry)) (progress .count) → Walked (outsideFrom R start rank (progress .count)) (progress .count) cap (progress .check) (now (marks .entry)) (now (marks .exit)) (now (index .entry)) (now (index .exit)) r) ⌝ }
+    ensures { λ _. ⌜ RowsKept (now (table .entry)) (now (table .exit)) ⌝ }
+{
+    passes::mark_rows(index, 0, progress.count as usize, reached);
+    if passes::count_clear(reached) == 0 {
+        return progress;
+    }
+    orphans::link_outside(table, reached);
+    let orphan = walk_tops(rank, progress, cap, table, marks, index);
+    if cap < orphan.count {
+        return orphan;
+    }
+    passes::mark_rows(
+        index,
+        progress.count as usize,
+        orphan.count as usize,
+        reached,
+    );
+    if passes::count_clear(reached) == 0 {
+        return orphan;
+    }
+    rings::enter_islands(
+        rank,
+        level_under(rank),
+        cap,
+        orphan,
+        table,
+        reached,
+        marks,
+        index,
+    )
 }
 
 // Raises the tree size of the node of rank before + 1, and the check word with it.
@@ -117,7 +155,7 @@ fn raise(before: u32, more: u32, progress: Progress, index: &mut [u32]) -> Progr
     }
 }
 
-// Walks the orphan paths under the last start row's node, whose tree size counts them.
+// Walks the orphan paths and the entries under the last start row's node, whose tree size counts them.
 fn adopt(
     starts: StartProgress,
     cap: u32,
@@ -126,10 +164,10 @@ fn adopt(
     marks: &mut [u32],
     index: &mut [u32],
 ) -> Progress
-    requires { ⌜ AnyPrepared (now table) ⌝ }
-    requires { ⌜ (starts .before < starts .count) × (starts .count ≤ cap) × (cap ≤ 65535) × (8 + 6 * cap ≤ length (now index)) × Named (now index) (starts .count) (length (rowColumn (now table))) × (getD (now index) (8 + 6 * starts .before + 2) 0 ≤ starts .count) ⌝ }
+    requires { ⌜ AnyRegularWritten (now table) (now index) (starts .count) ⌝ }
+    requires { ⌜ (starts .before < starts .count) × (starts .count ≤ cap) × (cap ≤ 65535) × (8 + 6 * cap ≤ length (now index)) × (getD (now index) (8 + 6 * starts .before + 2) 0 ≤ starts .count) ⌝ }
     requires { ⌜ ClearWorkspace (length (rowColumn (now table))) (now reached) (now marks) ⌝ }
-    ensures { λ r. ⌜ ((R : List Row) → Prepared R (now (table .entry)) → WithNumerals R → Adopted R cap starts (now (marks .entry)) (now (marks .exit)) (now (index .entry)) (now (index .exit)) r) ⌝ }
+    ensures { λ r. ⌜ ((R : List Row) (start : Row → Bool) → RegularWritten R start (now (table .entry)) (now (index .entry)) (starts .count) → Adopted R start cap starts (now (marks .entry)) (now (marks .exit)) (now (index .entry)) (now (index .exit)) r) ⌝ }
     ensures { λ _. ⌜ RowsKept (now (table .entry)) (now (table .exit)) ⌝ }
 {
     let before = starts.before;
@@ -138,7 +176,7 @@ fn adopt(
         count: count,
         check: starts.check,
     };
-    let progress = walk_orphans(before + 1, regular, cap, table, reached, marks, index);
+    let progress = walk_outside(before + 1, regular, cap, table, reached, marks, index);
     if cap < progress.count {
         return progress;
     }
@@ -179,7 +217,7 @@ pub fn enumerate(
         return regular;
     }
     if orphan == 3 {
-        return walk_orphans(0, regular, cap, table, reached, marks, index);
+        return walk_outside(0, regular, cap, table, reached, marks, index);
     }
     if n <= last {
         return regular;

@@ -5,16 +5,16 @@ use mathlib.Core.Bool.{Bool, true, false, cond, not, _&&_, _||_, or-false}
 use mathlib.Core.List.{List, [], _∷_, map}
 use Prim.Native.Nat.{ℕ, zero, suc, _+_, _-_, _≤_, _<_}
 use native.Mathlib.Omega.{arith}
-use native.Mathlib.Decide.{decLt}
-use borrow.Author.Tests.{eq-eqb, ne-eqb, le-ltb}
-use lib.Dec.{eqb, ltb, eqb→eq}
+use native.Mathlib.Decide.{ℕ-discrete, decLt}
+use borrow.Author.Tests.{eq-eqb, ne-eqb, le-ltb, lt-ltb}
+use lib.Dec.{T, eqb, ltb, eqb→eq}
 use lib.IntN.{ℤ, pos}
 use lib.ListN.{length, getD, replicate, length-map, List·getD-eq-default}
 use lib.Seq.{sets, length-sets}
 use Rattle.rows.specs.Journal.{blank}
 use Rattle.lists.specs.Choice.{bit}
 use Rattle.lists.specs.Lists.{_∈_, filter, numbers, any, Increasing, totalsFrom, front}
-use Rattle.lists.specs.MemberLaws.{eq→eqb, count-map, filter-agree, filter-short, same-test, getD-in, place-of, increasing-at, map-map, map-agree, totals-map}
+use Rattle.lists.specs.MemberLaws.{any-in, any-out, eq→eqb, count-map, filter-agree, filter-short, same-test, getD-in, place-of, increasing-at, map-map, map-agree, totals-map}
 use Rattle.lists.specs.StoreLaws.{getD-mapped}
 use Rattle.lists.specs.CountingLaws.{by-place, by-place-length, map-ranks, any-ranks}
 use Rattle.rows.specs.declared.Row.{Row}
@@ -26,14 +26,14 @@ use Rattle.options.specs.declared.Choice.{Choice}
 use Rattle.paths.specs.Forest.{memb}
 use Rattle.paths.specs.Rows.{row as boardRow, num, RowOf}
 use Rattle.paths.specs.SiblingLaws.{sorted-is, sorted-distinct}
-use Rattle.paths.specs.Refusals.{shared, refusal10, refusal11}
-use Rattle.passes.specs.PassesLayer.{Named, RowsOnce, ByRow, ClassesByRow, CountsClear, ClassesCounted, rowsTo, reachedFlags, anyClosing, classAt, classesTo, classCounts, askedAt, sharesAt, anyShared, minutesAt, totalsTo}
+use Rattle.nodes.specs.Refusals.{shared, refusal10, refusal11}
+use Rattle.passes.specs.PassesLayer.{Named, NamedOrEntry, RowsOnce, ByRow, ClassesByRow, CountsClear, ClassesCounted, rowsTo, reachedFlags, anyEntry, anyClosing, classAt, classesTo, classCounts, askedAt, sharesAt, anyShared, minutesAt, totalsTo}
 use Rattle.table.specs.TableLayer.{rowColumn, classColumn, childColumn, nextColumn}
 use Rattle.table.specs.TableLaws.{column-length}
 use Rattle.request.specs.declared.Built.{Built}
 use Rattle.request.specs.RefusedLayer.{refusedBy}
 use Rattle.walk.specs.declared.Progress.{Progress}
-use Rattle.finish.specs.FinishLayer.{NodesWritten, Classes, NodesHeld, leftOver, lateRefusal, lateAnswer, bodyMinutes, Finished}
+use Rattle.finish.specs.FinishLayer.{NodesWritten, Classes, NodesHeld, leftOver, leftCount, lateRefusal, lateAnswer, bodyMinutes, Finished}
 
 bit-clear : (t : Bool) → eqb 0 (bit t) ≡ not t
 bit-clear true = refl
@@ -46,12 +46,17 @@ asked-no k j b n = sym (ap (λ (t : Bool). t && b) (ne-eqb k j n))
 pub asked-yes : (k j : ℕ) (b r : Bool) → k ≡ j → r ≡ b → r ≡ (eqb k j && b)
 asked-yes k j b r e q = q ∙ sym (ap (λ (t : Bool). t && b) (eq-eqb k j e))
 
-pub count-few : (l xs : List ℕ) (m x : ℕ) → l ≡ reachedFlags xs m → x ≡ length (filter (eqb 0) l) → m ≤ 1024 → x ≤ 1024
-unfolding reachedFlags
-count-few l xs m x f e h = omega (arith, e, filter-short (eqb 0) l, ap length f ∙ by-place-length (λ y. bit (memb y xs)) 1 m, h)
-
 pub minutes-long : (R : List Row) (minutes : List ℤ) → minutes ≡ map (λ (r : Row). r .minutes) R → length minutes ≡ length R
 minutes-long R minutes e = ap length e ∙ length-map R (λ (r : Row). r .minutes)
+
+-- where orphans are ignored or refused the count is that of the flags
+pub left-counted : (orphan : ℕ) (xs flags : List ℕ) (m n : ℕ) → orphan ≤ 1 → flags ≡ reachedFlags xs m → n ≡ length (filter (eqb 0) flags) → n ≡ leftCount orphan xs m
+unfolding leftCount
+left-counted orphan xs flags m n b f e = e ∙ ap (λ (l : List ℕ). length (filter (eqb 0) l)) f ∙ sym (ap (λ (t : Bool). cond t 0 (length (filter (eqb 0) (reachedFlags xs m)))) (le-ltb 1 orphan b))
+
+pub left-unasked : (orphan : ℕ) (xs : List ℕ) (m : ℕ) → 1 < orphan → 0 ≡ leftCount orphan xs m
+unfolding leftCount
+left-unasked orphan xs m b = sym (ap (λ (t : Bool). cond t 0 (length (filter (eqb 0) (reachedFlags xs m)))) (lt-ltb 1 orphan b))
 
 -- ---- an index that holds the bodies
 
@@ -67,11 +72,8 @@ module _ {R : List Row} {bs : List Body} {s : List ℕ} {n : ℕ} (h : NodesHeld
   unfolding at
   row-at k a b = row-read (h .holds) k (bodyOf s 0) a (omega (arith, h .count-is))
 
-  pub named : Named s n (length R)
-  named k a b = let r = h .row-of (at k) (at-in k a b) in omega (arith, row-at k a b, r)
-
-  pub named-in : (m : ℕ) → m ≡ length R → Named s n m
-  named-in m e = subst (Named s n) (sym e) named
+  pub high : (m : ℕ) → m ≡ length R → NamedOrEntry s n m
+  high m e k a b = omega (arith, row-at k a b, h .over .row-high (at k) (at-in k a b))
 
   pub few-ranks : n ≤ 65535
   few-ranks = omega (arith, h .count-is, h .few)
@@ -97,6 +99,36 @@ module _ {R : List Row} {bs : List Body} {s : List ℕ} {n : ℕ} (h : NodesHeld
       xs : List ℕ
       xs = map (λ (b : Body). b .row) bs
 
+  -- where no body is an entry's, the row number of each is that of a row
+  abbrev pub AllRows : Type 0
+  AllRows = (b : Body) → b ∈ bs → RowOf R (b .row)
+
+  pub named-in : AllRows → (m : ℕ) → m ≡ length R → Named s 0 n m
+  named-in u m e k a b = let r = u (at k) (at-in k a b) in omega (arith, row-at k a b, r)
+
+  pub rows-named : ((b : Body) → b ∈ bs → 1 ≤ b .row) → AllRows
+  rows-named f b m = (f b m, h .over .row-high b m)
+
+  pub no-entry : anyEntry s n ≡ false → AllRows
+  unfolding anyEntry at
+  no-entry e = rows-named (λ b m. go b m (ℕ-discrete (b .row) 0))
+    where
+      found : any (λ k. eqb (rowAt s k) 0) (numbers 1 n) ≡ any (λ (c : Body). eqb (c .row) 0) bs
+      found = any-ranks (λ k. eqb (rowAt s k) 0) (λ (c : Body). eqb (c .row) 0) bs (bodyOf s 0) n (h .count-is) (λ k a b. ap (λ (x : ℕ). eqb x 0) (row-at k a b))
+
+      go : (b : Body) → b ∈ bs → Dec (b .row ≡ 0) → 1 ≤ b .row
+      go b m (yes z) = absurd (subst T (sym found ∙ e) (any-in (λ (c : Body). eqb (c .row) 0) bs b m (eq→eqb (b .row) 0 z)))
+      go b m (no z) = omega arith
+
+  pub entry-found : anyEntry s n ≡ true → (multi : ℕ) → (multi ≡ 0 → ⊥) → multi ≤ 2 → true ≡ refusal11 multi bs
+  unfolding anyEntry at
+  entry-found e multi z two =
+      let r = any-out (λ (c : Body). eqb (c .row) 0) bs (subst T (sym (sym found ∙ e)) tt) in
+      sym (h .over .entries-share (r .0) (r .1) (eqb→eq (r .0 .row) 0 (r .2)) multi z two)
+    where
+      found : any (λ k. eqb (rowAt s k) 0) (numbers 1 n) ≡ any (λ (c : Body). eqb (c .row) 0) bs
+      found = any-ranks (λ k. eqb (rowAt s k) 0) (λ (c : Body). eqb (c .row) 0) bs (bodyOf s 0) n (h .count-is) (λ k a b. ap (λ (x : ℕ). eqb x 0) (row-at k a b))
+
   pub totals-is : (minutes : List ℤ) → minutes ≡ map (λ (r : Row). r .minutes) R → totalsTo s minutes n ≡ totalsFrom (bodyMinutes R) (pos 0) bs
   unfolding totalsTo minutesAt
   totals-is minutes e =
@@ -104,13 +136,11 @@ module _ {R : List Row} {bs : List Body} {s : List ℕ} {n : ℕ} (h : NodesHeld
       (ap (map (minutesAt minutes)) rows-are
       ∙ map-map (minutesAt minutes) (λ (b : Body). b .row) bs
       ∙ map-agree (λ (b : Body). minutesAt minutes (b .row)) (bodyMinutes R) bs
-      (λ b m. ap (λ (l : List ℤ). getD l (b .row - 1) (pos 0)) e ∙ own (b .row) (h .row-of b m)))
+      (λ b m. ap (λ (l : List ℤ). minutesAt l (b .row)) e ∙ own (b .row) (h .over .row-high b m)))
     where
-      own : (x : ℕ) → RowOf R x → getD (map (λ (r : Row). r .minutes) R) (x - 1) (pos 0) ≡ boardRow R x .minutes
-      own zero o = absurd (omega (arith, o))
-      own (suc k) o =
-          let e : suc k - 1 ≡ k = omega arith in
-          ap (λ (j : ℕ). getD (map (λ (r : Row). r .minutes) R) j (pos 0)) e ∙ getD-mapped (λ (r : Row). r .minutes) R k blank (pos 0) (omega (arith, o))
+      own : (x : ℕ) → x ≤ length R → minutesAt (map (λ (r : Row). r .minutes) R) x ≡ boardRow R x .minutes
+      own zero o = refl
+      own (suc k) o = getD-mapped (λ (r : Row). r .minutes) R k blank (pos 0) (omega (arith, o))
 
   -- ---- shared numerals
 
@@ -125,7 +155,7 @@ module _ {R : List Row} {bs : List Body} {s : List ℕ} {n : ℕ} (h : NodesHeld
           differ = λ p q a b. increasing-at (λ x y. x ≢ y) row p q 0 (subst (λ (l : List ℕ). Increasing (λ x y. x ≢ y) l) (sym (c .row-is)) (sorted-distinct R)) a b;
         }
 
-    module _ (classes : List ℕ) (by-row : ByRow row class classes) where
+    module _ (whole : AllRows) (classes : List ℕ) (by-row : ByRow row class classes) where
       classOf : ℕ → ℕ
       classOf x = getD classes (x - 1) 0
 
@@ -159,17 +189,20 @@ module _ {R : List Row} {bs : List Body} {s : List ℕ} {n : ℕ} (h : NodesHeld
       unfolding classesTo classAt classOf at
       classes-are = map-ranks (classAt s classes) (λ (b : Body). classOf (b .row)) bs (bodyOf s 0) n (h .count-is) (λ k a b. ap (λ (x : ℕ). getD classes (x - 1) 0) (row-at k a b))
 
+      some : (b : Body) → b ∈ bs → b .row ≢ 0
+      some b i e = let r = whole b i in absurd (omega (arith, r))
+
       -- the count of the class of a body is the number of bodies with its numeral
       count-is : (m : ℕ) → m ≡ length row → (b : Body) → b ∈ bs → getD (classCounts (classesTo s classes n) m) (classOf (b .row)) 0 ≡ length (filter (λ (a : Body). eqb (a .numeral) (b .numeral)) bs)
       unfolding classCounts
       count-is m e b i =
           let z : 0 + classOf (b .row) ≡ classOf (b .row) = omega arith in
-          by-place (λ k. length (filter (eqb k) (classesTo s classes n))) 0 m (classOf (b .row)) 0 (omega (arith, class-below (b .row) (h .row-of b i)))
+          by-place (λ k. length (filter (eqb k) (classesTo s classes n))) 0 m (classOf (b .row)) 0 (omega (arith, class-below (b .row) (whole b i)))
           ∙ ap (λ (k : ℕ). length (filter (eqb k) (classesTo s classes n))) z
           ∙ ap (λ (l : List ℕ). length (filter (eqb (classOf (b .row))) l)) classes-are
           ∙ count-map (eqb (classOf (b .row))) (λ (a : Body). classOf (a .row)) bs
           ∙ ap length (filter-agree (λ (a : Body). eqb (classOf (b .row)) (classOf (a .row))) (λ (a : Body). eqb (a .numeral) (b .numeral)) bs
-          (λ a j. same-class (b .row) (a .row) (h .row-of b i) (h .row-of a j) ∙ sym (ap₂ eqb (h .numeral-of a j) (h .numeral-of b i))))
+          (λ a j. same-class (b .row) (a .row) (whole b i) (whole a j) ∙ sym (ap₂ eqb (h .over .numeral-of a j (some a j)) (h .over .numeral-of b i (some b i)))))
 
       any-shared-is : (m : ℕ) → m ≡ length row → (leaves : Bool) → anyShared s classes (classCounts (classesTo s classes n) m) leaves n ≡ any (λ (b : Body). (not leaves || ltb 1 (b .size)) && shared bs b) bs
       unfolding anyShared sharesAt askedAt classAt classOf at
@@ -209,17 +242,17 @@ module _ {R : List Row} {bs : List Body} {s : List ℕ} {n : ℕ} (h : NodesHeld
       go [] e = none (eqb multi 2) (eqb multi 1)
       go (b ∷ l) e = absurd (omega arith)
 
-  pub some-row : (n ≡ 0 → ⊥) → 1 ≤ length R
-  some-row z = let r = named 1 (omega arith) (omega arith) in omega (arith, r)
+  pub some-row : AllRows → (n ≡ 0 → ⊥) → 1 ≤ length R
+  some-row u z = let r = named-in u (length R) refl 1 (omega arith) (omega arith) in omega (arith, r)
 
 -- ---- the classes and their counts in the columns of a table
 
-module _ {R : List Row} {bs : List Body} {s : List ℕ} {n : ℕ} (h : NodesHeld R bs s n) {t t₁ t₂ : List ℕ} (c : Classes R (rowColumn t) (classColumn t)) (p : ClassesByRow t t₁) (q : CountsClear t₁ t₂) where
+module _ {R : List Row} {bs : List Body} {s : List ℕ} {n : ℕ} (h : NodesHeld R bs s n) {t t₁ t₂ : List ℕ} (c : Classes R (rowColumn t) (classColumn t)) (whole : AllRows h) (p : ClassesByRow t t₁) (q : CountsClear t₁ t₂) where
   children : childColumn t₂ ≡ childColumn t₁
   children = q .others 3 (omega arith) (omega arith)
 
-  pub counting-named : Named s n (length (childColumn t₂))
-  counting-named = named-in h (length (childColumn t₂)) (omega (arith, column-length 3 t₂, column-length 0 t, q .long, p .long, c .row-long))
+  pub counting-named : Named s 0 n (length (childColumn t₂))
+  counting-named = named-in h whole (length (childColumn t₂)) (omega (arith, column-length 3 t₂, column-length 0 t, q .long, p .long, c .row-long))
 
   pub counting-clear : nextColumn t₂ ≡ replicate (length (nextColumn t₂)) 0
   counting-clear = let e : length (nextColumn t₁) ≡ length (nextColumn t₂) = omega (arith, column-length 4 t₁, column-length 4 t₂, q .long) in q .clear ∙ ap (λ (k : ℕ). replicate k 0) e
@@ -227,14 +260,14 @@ module _ {R : List Row} {bs : List Body} {s : List ℕ} {n : ℕ} (h : NodesHeld
   pub counting-below : (n ≡ 0 → ⊥) → (x : ℕ) → getD (childColumn t₂) x 0 < length (nextColumn t₂)
   counting-below some x =
       subst (λ (l : List ℕ). getD l x 0 < length (nextColumn t₂)) (sym children)
-      (classes-below h c (childColumn t₁) (p .by-row) (omega (arith, some-row h some, c .row-long)) (omega (arith, column-length 3 t₁, column-length 0 t, p .long)) (length (nextColumn t₂)) (omega (arith, column-length 4 t₂, column-length 0 t, q .long, p .long)) x)
+      (classes-below h c whole (childColumn t₁) (p .by-row) (omega (arith, some-row h whole some, c .row-long)) (omega (arith, column-length 3 t₁, column-length 0 t, p .long)) (length (nextColumn t₂)) (omega (arith, column-length 4 t₂, column-length 0 t, q .long, p .long)) x)
 
-  pub counted-named : {t₃ : List ℕ} → ClassesCounted s n t₂ t₃ → Named s n (length (childColumn t₃))
-  counted-named {t₃} k = named-in h (length (childColumn t₃)) (omega (arith, column-length 3 t₃, column-length 0 t, k .long, q .long, p .long, c .row-long))
+  pub counted-named : {t₃ : List ℕ} → ClassesCounted s n t₂ t₃ → Named s 0 n (length (childColumn t₃))
+  counted-named {t₃} k = named-in h whole (length (childColumn t₃)) (omega (arith, column-length 3 t₃, column-length 0 t, k .long, q .long, p .long, c .row-long))
 
   pub shared-found : {t₃ : List ℕ} → ClassesCounted s n t₂ t₃ → (multi : ℕ) (leaves r : Bool) → (multi ≡ 0 → ⊥) → multi ≤ 2 → leaves ≡ eqb multi 1 → r ≡ anyShared s (childColumn t₃) (nextColumn t₃) leaves n → r ≡ refusal11 multi bs
   shared-found {t₃} k multi leaves r z two l a =
-      shared-is h c (childColumn t₁) (p .by-row) (nextColumn t₃) (length (nextColumn t₂)) multi leaves r (omega (arith, column-length 4 t₂, column-length 0 t, q .long, p .long)) z two
+      shared-is h c whole (childColumn t₁) (p .by-row) (nextColumn t₃) (length (nextColumn t₂)) multi leaves r (omega (arith, column-length 4 t₂, column-length 0 t, q .long, p .long)) z two
       (k .counts ∙ ap (λ (x : List ℕ). classCounts (classesTo s x n) (length (nextColumn t₂))) children) l
       (a ∙ ap (λ (x : List ℕ). anyShared s x (nextColumn t₃) leaves n) (k .others 3 (omega arith) (omega arith) ∙ children))
 
@@ -249,7 +282,7 @@ multi-above multi bs e = not-asked multi bs (λ o. absurd (omega arith)) (λ o. 
 
 -- ---- the bodies that a walk has written, and the table of contents over them
 
-module _ {R : List Row} {bs : List Body} {before index : List ℕ} {progress : Progress} (w : NodesWritten R bs before index progress) where
+module _ {R : List Row} {orphan : ℕ} {bs : List Body} {before index : List ℕ} {progress : Progress} (w : NodesWritten R orphan bs before index progress) where
   pub front-held : (index′ : List ℕ) → index′ ≡ cond (ltb (length index) 8) index (sets index 0 (contentsWords (progress .count) (progress .check))) → index′ ≡ front (imageWords bs) before
   front-held index′ e =
       let l : 8 ≤ length index = omega (arith, ap length (w .written) ∙ length-sets before 8 (flat bs), w .room) in
@@ -265,8 +298,7 @@ module _ {R : List Row} {bs : List Body} {before index : List ℕ} {progress : P
         count-is = w .count-is;
         few = w .few;
         holds = subst (λ (x : List ℕ). HoldsImage x bs) (sym (front-held index′ e)) (holds-front bs before);
-        row-of = w .row-of;
-        numeral-of = w .numeral-of;
+        over = w .over;
       }
 
 -- ---- the answer
@@ -279,7 +311,7 @@ late R choice bs before index′ totals totals′ r k z e q =
     record { answer = q ∙ sym a; index-is = λ o. absurd (omega arith); totals-are = λ o. absurd (omega arith) }
 
 -- the table of contents is written, and s is the index then
-module _ (R : List Row) (choice : Choice) (bs : List Body) (before index : List ℕ) (progress : Progress) (w : NodesWritten R bs before index progress) (s : List ℕ)
+module _ (R : List Row) (choice : Choice) (bs : List Body) (before index : List ℕ) (progress : Progress) (w : NodesWritten R (choice .orphan) bs before index progress) (none-left : 1 < choice .orphan → leftOver R bs ≡ 0) (s : List ℕ)
     (e : s ≡ cond (ltb (length index) 8) index (sets index 0 (contentsWords (progress .count) (progress .check)))) (totals totals′ : List ℤ) (index′ : List ℕ) (r : Built)
     (closed : Bool) (closed-is : closed ≡ (eqb (choice .cycle) 1 && anyClosing s (progress .count))) where
   closes : closed ≡ refusal10 (choice .cycle) bs
@@ -294,10 +326,18 @@ module _ (R : List Row) (choice : Choice) (bs : List Body) (before index : List 
     unfolding lateRefusal
     finished-shared t q = late R choice bs before index′ totals totals′ r 11 (omega arith) (simp (sym closes ∙ clear, sym share-is ∙ t)) q
 
-    module _ (alone : share ≡ false) (reached : List ℕ) (m : ℕ) (rows : m ≡ length R) (reached-is : reached ≡ reachedFlags (rowsTo s (progress .count)) m)
-        (left : ℕ) (left-are : left ≡ length (filter (eqb 0) reached)) (over : Bool) (over-is : over ≡ (eqb (choice .orphan) 1 && not (eqb left 0))) where
+    module _ (alone : share ≡ false) (m : ℕ) (rows : m ≡ length R) (left : ℕ) (left-are : left ≡ leftCount (choice .orphan) (rowsTo s (progress .count)) m)
+        (over : Bool) (over-is : over ≡ (eqb (choice .orphan) 1 && not (eqb left 0))) where
       lefts : left ≡ leftOver R bs
-      lefts = left-are ∙ ap (λ (l : List ℕ). length (filter (eqb 0) l)) reached-is ∙ left-is (held w s e) m rows
+      unfolding leftCount
+      lefts = left-are ∙ go (decLt 1 (choice .orphan))
+        where
+          count : ℕ
+          count = length (filter (eqb 0) (reachedFlags (rowsTo s (progress .count)) m))
+
+          go : Dec (1 < choice .orphan) → cond (ltb 1 (choice .orphan)) 0 count ≡ leftOver R bs
+          go (yes b) = ap (λ (t : Bool). cond t 0 count) (lt-ltb 1 (choice .orphan) b) ∙ sym (none-left b)
+          go (no b) = ap (λ (t : Bool). cond t 0 count) (le-ltb 1 (choice .orphan) (omega arith)) ∙ left-is (held w s e) m rows
 
       overs : over ≡ (eqb (choice .orphan) 1 && not (eqb (leftOver R bs) 0))
       overs = over-is ∙ ap (λ (k : ℕ). eqb (choice .orphan) 1 && not (eqb k 0)) lefts

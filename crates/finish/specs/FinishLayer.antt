@@ -1,10 +1,10 @@
 -- What is left to do once the bodies of all nodes stand in the index: refusals 10 to 12, the rows left over, the running totals. Assumes nothing: these are definitions.
 use mathlib.Core.Path.{_≡_}
-use mathlib.Core.Logic.{_↔_}
-use mathlib.Core.Bool.{cond, not, _&&_}
+use mathlib.Core.Logic.{_≢_, _↔_}
+use mathlib.Core.Bool.{true, cond, not, _&&_}
 use mathlib.Core.List.{List, map}
 use Prim.Native.Nat.{ℕ, _+_, _*_, _≤_, _<_}
-use lib.Dec.{eqb}
+use lib.Dec.{eqb, ltb}
 use lib.IntN.{ℤ, pos}
 use lib.ListN.{length, getD}
 use lib.Seq.{sets}
@@ -15,22 +15,29 @@ use Rattle.image.specs.Layout.{flat, checked, imageWords}
 use Rattle.image.specs.ImageLayer.{HoldsImage}
 use Rattle.options.specs.declared.Choice.{Choice}
 use Rattle.paths.specs.Forest.{memb}
-use Rattle.paths.specs.Rows.{row as boardRow, num, RowOf}
+use Rattle.paths.specs.Rows.{row as boardRow, num}
 use Rattle.paths.specs.Nodes.{sorted}
-use Rattle.paths.specs.Refusals.{refusal10, refusal11}
+use Rattle.nodes.specs.Refusals.{refusal10, refusal11}
+use Rattle.passes.specs.PassesLayer.{reachedFlags}
 use Rattle.request.specs.declared.Built.{Built}
 use Rattle.table.specs.TableLayer.{rowColumn, classColumn}
 use Rattle.walk.specs.declared.Progress.{Progress}
 
--- the bodies bs of nodes over the rows R stand in the index from word 8 on, over what it held before
-pub record NodesWritten (R : List Row) (bs : List Body) (before index : List ℕ) (progress : Progress) : Type 0 where
+-- what is known of the bodies of nodes over the rows R: a body with row number 0 is an entry's, and its ring has its numeral too
+pub record BodiesOver (R : List Row) (bs : List Body) : Type 0 where
+  pub row-high : (b : Body) → b ∈ bs → b .row ≤ length R
+  pub numeral-of : (b : Body) → b ∈ bs → b .row ≢ 0 → b .numeral ≡ num R (b .row)
+  pub entries-share : (b : Body) → b ∈ bs → b .row ≡ 0 → (multi : ℕ) → multi ≢ 0 → multi ≤ 2 → refusal11 multi bs ≡ true
+
+-- the bodies bs of nodes over the rows R, under an orphan choice, stand in the index from word 8 on, over what it held before; there are entries under adopt and root alone
+pub record NodesWritten (R : List Row) (orphan : ℕ) (bs : List Body) (before index : List ℕ) (progress : Progress) : Type 0 where
   pub count-is : progress .count ≡ length bs
   pub check-is : progress .check ≡ checked 0 (flat bs)
   pub few : length bs ≤ 65535
   pub room : 8 + 6 * length bs ≤ length before
   pub written : index ≡ sets before 8 (flat bs)
-  pub row-of : (b : Body) → b ∈ bs → RowOf R (b .row)
-  pub numeral-of : (b : Body) → b ∈ bs → b .numeral ≡ num R (b .row)
+  pub over : BodiesOver R bs
+  pub named : orphan ≤ 1 → (b : Body) → b ∈ bs → 1 ≤ b .row
 
 -- the row numbers of R in sibling order, and a class for each position: equal for equal numerals only
 pub record Classes (R : List Row) (row class : List ℕ) : Type 0 where
@@ -42,11 +49,11 @@ pub record Classes (R : List Row) (row class : List ℕ) : Type 0 where
   pub same : (p q : ℕ) → p < length row → q < length row → (getD class p 0 ≡ getD class q 0) ↔ (num R (getD row p 0) ≡ num R (getD row q 0))
 
 -- the nodes of some rows are written, and the rows and classes stand in a table
-pub record AnyNodesWritten (t : List ℕ) (minutes : List ℤ) (index : List ℕ) (progress : Progress) : Type 0 where
+pub record AnyNodesWritten (orphan : ℕ) (t : List ℕ) (minutes : List ℤ) (index : List ℕ) (progress : Progress) : Type 0 where
   pub R : List Row
   pub bs : List Body
   pub before : List ℕ
-  pub written : NodesWritten R bs before index progress
+  pub written : NodesWritten R orphan bs before index progress
   pub classes : Classes R (rowColumn t) (classColumn t)
   pub minutes-are : minutes ≡ map (λ (r : Row). r .minutes) R
 
@@ -55,8 +62,7 @@ pub record NodesHeld (R : List Row) (bs : List Body) (index : List ℕ) (n : ℕ
   pub count-is : n ≡ length bs
   pub few : length bs ≤ 65535
   pub holds : HoldsImage index bs
-  pub row-of : (b : Body) → b ∈ bs → RowOf R (b .row)
-  pub numeral-of : (b : Body) → b ∈ bs → b .numeral ≡ num R (b .row)
+  pub over : BodiesOver R bs
 
 -- that of some rows, which stand with their classes in a table
 pub record AnyNodesHeld (t index : List ℕ) (n : ℕ) : Type 0 where
@@ -68,6 +74,10 @@ pub record AnyNodesHeld (t index : List ℕ) (n : ℕ) : Type 0 where
 -- "the number of rows that end no node"
 abbrev pub leftOver : List Row → List Body → ℕ
 leftOver R bs = length (filter (λ x. not (memb x (map (λ (b : Body). b .row) bs))) (numbers 1 (length R)))
+
+-- how many of m rows are none of xs, where that is asked: under adopt and root none is left over
+unfoldable pub leftCount : ℕ → List ℕ → ℕ → ℕ
+leftCount orphan xs m = cond (ltb 1 orphan) 0 (length (filter (eqb 0) (reachedFlags xs m)))
 
 -- the first of 10 to 12 that applies, where under error the rows of U are those that end no node; 0 for none
 unfoldable pub lateRefusal : List Row → Choice → List Body → ℕ

@@ -7,10 +7,10 @@ ghost use lib.Dec.{eqb};
 ghost use lib.ListN.{length};
 ghost use Rattle.rows.specs.declared.Row.{Row};
 ghost use Rattle.image.specs.declared.Body.{Body};
-ghost use Rattle.passes.specs.PassesLayer.{anyClosing};
-ghost use Rattle.paths.specs.Refusals.{refusal11};
+ghost use Rattle.passes.specs.PassesLayer.{Named, rowsTo, anyClosing};
+ghost use Rattle.nodes.specs.Refusals.{refusal11};
 ghost use Rattle.table.specs.TableLayer.{rowColumn, classColumn};
-ghost use Rattle.finish.specs.FinishLayer.{NodesWritten, Classes, AnyNodesWritten, NodesHeld, AnyNodesHeld, Finished};
+ghost use Rattle.finish.specs.FinishLayer.{NodesWritten, Classes, AnyNodesWritten, NodesHeld, AnyNodesHeld, leftOver, leftCount, Finished};
 use options::Choice;
 use request::Built;
 use walk::Progress;
@@ -40,10 +40,26 @@ fn is_shared(multi: u32, index: &[u32], n: usize, table: &mut [u32]) -> bool
     if n == 0 {
         return false;
     }
+    if passes::any_entry(index, n) {
+        return true;
+    }
     passes::classes_by_row(table);
     passes::clear_counts(table);
     passes::count_classes(index, n, table);
     passes::any_shared(index, n, table, multi == 1)
+}
+
+// How many rows end no node. Under adopt and root no row is left over.
+fn count_left(orphan: u32, n: usize, index: &[u32], reached: &mut [u32]) -> u32
+    requires { ⌜ (n ≤ 65535) × (orphan ≤ 1 → Named (now index) 0 n (length (now reached))) × (length (now reached) ≤ 1024) ⌝ }
+    ensures { λ r. ⌜ r ≡ leftCount orphan (rowsTo (now (index .entry)) n) (length (now (reached .entry))) ⌝ }
+{
+    if 1 < orphan {
+        return 0;
+    }
+    lists::clear(reached);
+    passes::mark_rows(index, 0, n, reached);
+    passes::count_clear(reached) as u32
 }
 
 // Whether rows are left over and that is refused.
@@ -66,9 +82,9 @@ pub fn finish(
     index: &mut [u32],
     totals: &mut [i64],
 ) -> Built
-    requires { ⌜ AnyNodesWritten (now table) (now minutes) (now index) progress ⌝ }
+    requires { ⌜ AnyNodesWritten (choice .orphan) (now table) (now minutes) (now index) progress ⌝ }
     requires { ⌜ (length (now reached) ≡ length (rowColumn (now table))) × (progress .count < length (now totals)) ⌝ }
-    ensures { λ r. ⌜ ((R : List Row) (bs : List Body) (before : List ℕ) → NodesWritten R bs before (now (index .entry)) progress → Classes R (rowColumn (now (table .entry))) (classColumn (now (table .entry))) → now (minutes .entry) ≡ map (λ (r : Row). r .minutes) R → Finished R choice bs before (now (index .exit)) (now (totals .entry)) (now (totals .exit)) r) ⌝ }
+    ensures { λ r. ⌜ ((R : List Row) (bs : List Body) (before : List ℕ) → NodesWritten R (choice .orphan) bs before (now (index .entry)) progress → (1 < choice .orphan → leftOver R bs ≡ 0) → Classes R (rowColumn (now (table .entry))) (classColumn (now (table .entry))) → now (minutes .entry) ≡ map (λ (r : Row). r .minutes) R → Finished R choice bs before (now (index .exit)) (now (totals .entry)) (now (totals .exit)) r) ⌝ }
 {
     let n = progress.count as usize;
     image::write_contents(index, progress.count, progress.check);
@@ -78,9 +94,7 @@ pub fn finish(
     if is_shared(choice.multi, index, n, table) {
         return request::refused(11);
     }
-    lists::clear(reached);
-    passes::mark_rows(index, n, reached);
-    let left = passes::count_clear(reached) as u32;
+    let left = count_left(choice.orphan, n, index, reached);
     if is_left(choice.orphan, left) {
         return request::refused(12);
     }

@@ -20,11 +20,11 @@ use Rattle.image.specs.ImageLaws.{holds-front}
 use Rattle.image.specs.ImageLayer.{HoldsImage}
 use Rattle.paths.specs.Paths.{Orphan}
 use Rattle.forest.specs.ForestLaws.{Closed}
-use Rattle.paths.specs.Nodes.{nodes}
-use Rattle.paths.specs.Bodies.{bodies}
-use Rattle.paths.specs.Refusals.{orphanChoice, refusalOf}
-use Rattle.paths.specs.NodeLaws.{nodes-forest}
-use Rattle.paths.specs.ParentLaws.{nodes-closed}
+use Rattle.nodes.specs.Nodes.{nodes}
+use Rattle.nodes.specs.Bodies.{bodies}
+use Rattle.nodes.specs.Refusals.{orphanChoice, refusalOf}
+use Rattle.nodes.specs.NodeLaws.{nodes-forest}
+use Rattle.nodes.specs.ParentLaws.{nodes-closed}
 use Rattle.index_check.specs.IndexCheck.{accepts}
 use Rattle.answers.specs.Answers.{DistancesAtMostZero, LinksByLevel}
 use Rattle.answers.specs.DescribedLaws.{closed-accepted}

@@ -27,14 +27,18 @@ use Rattle.image.specs.ImageLaws.{holds-front, bodies-read}
 use Rattle.image.specs.ImageLayer.{HoldsImage}
 use Rattle.paths.specs.Forest.{memb}
 use Rattle.paths.specs.Paths.{last, Orphan}
-use Rattle.paths.specs.Nodes.{nodes}
-use Rattle.paths.specs.Bodies.{minutesOf, runningTotals, bodies, leftRows, leftOf}
-use Rattle.paths.specs.Refusals.{orphanChoice, refusal7, refusalOf}
-use Rattle.paths.specs.NodeLaws.{nodes-forest}
-use Rattle.paths.specs.BodyLaws.{bodies-length, left-is}
-use Rattle.paths.specs.RefusalLaws.{accepted}
-use Rattle.paths.specs.ParentLaws.{Allowed}
-use Rattle.paths.specs.BoundLaws.{level-fits, minutes-fit}
+use Rattle.paths.specs.Nodes.{tops, starts as startRows}
+use Rattle.islands.specs.Islands.{joined}
+use Rattle.islands.specs.Entries.{islands}
+use Rattle.nodes.specs.Nodes.{entriesOf, withEntries, nodes}
+use Rattle.nodes.specs.Bodies.{minutesOf, runningTotals, bodies, leftRows, leftOf}
+use Rattle.nodes.specs.Refusals.{orphanChoice, refusal7, refusal8, refusalOf}
+use Rattle.nodes.specs.NodeLaws.{entries-joining, nodes-forest}
+use Rattle.nodes.specs.BodyLaws.{bodies-length, left-is}
+use Rattle.nodes.specs.RefusalLaws.{accepted}
+use Rattle.nodes.specs.ParentLaws.{Allowed}
+use Rattle.nodes.specs.BoundLaws.{level-fits, joined-fit}
+use Rattle.nodes.specs.LeftLaws.{accepted-leaves-none}
 use Rattle.sums.specs.HeldLaws.{HoldsTotals}
 use Rattle.answers.specs.Answers.{Navigation}
 use Rattle.answers.specs.DescribedLaws.{count-here}
@@ -56,6 +60,12 @@ allowed-here (Limit d) (suc zero) e = tt
 allowed-here (Limit d) (suc (suc zero)) e = absurd (true≢false e)
 allowed-here (Limit d) (suc (suc (suc orphan))) e = absurd (true≢false (sym (ap not (ne-eqb (suc (suc (suc orphan))) 0 (λ z. omega arith))) ∙ e))
 
+-- sentences 7 and 8 don't apply, so under adopt and root no row is left over
+none-left-at : (R : List Row) (starts : Row → Bool) (depth : Depth) (orphan : ℕ) → 1 < orphan → refusal7 orphan depth ≡ false
+    → refusal8 orphan (tops R starts depth) (islands R starts) (startRows R starts) ≡ false → leftOf R starts depth (orphanChoice orphan) ≡ 0
+none-left-at R starts None orphan h seven eight = accepted-leaves-none R starts orphan h eight
+none-left-at R starts (Limit d) orphan h seven eight = absurd (true≢false (sym (ap not (ne-eqb orphan 0 (λ z. omega arith))) ∙ seven))
+
 -- ---- a build over rows: the answer of a refusal q and what is left, `done` where the build is accepted
 
 module _ (R : List Row) (code : ℕ) (depth : Depth) (starts : Row → Bool) where
@@ -65,6 +75,9 @@ module _ (R : List Row) (code : ℕ) (depth : Depth) (starts : Row → Bool) whe
   abbrev W : List (List ℕ)
   W = nodes R starts depth o
 
+  abbrev es : List ℕ
+  es = entriesOf R starts depth o
+
   abbrev pub answerWhen : ℕ → Bool → Built
   answerWhen q done = record { refusal = q; nodes = cond done (length W) 0; left = cond done (leftOf R starts depth o) 0 }
 
@@ -72,7 +85,7 @@ module _ (R : List Row) (code : ℕ) (depth : Depth) (starts : Row → Bool) whe
   indexWhen index done = cond done (front (imageWords (bodies R starts depth o)) index) (replicate (length index) 0)
 
   abbrev pub totalsWhen : List ℤ → Bool → List ℤ
-  totalsWhen totals done = cond done (front (runningTotals R W) totals) (replicate (length totals) (pos 0))
+  totalsWhen totals done = cond done (front (runningTotals (withEntries R starts depth o) W) totals) (replicate (length totals) (pos 0))
 
   module _ (few : length R ≤ 1024) (index : List ℕ) (totals : List ℤ) where
     abbrev indexBy : Bool → List ℕ
@@ -85,13 +98,18 @@ module _ (R : List Row) (code : ℕ) (depth : Depth) (starts : Row → Bool) whe
     pub record Unrefused : Type 0 where
       pub allowed : Allowed depth o
       pub small : length W ≤ 65535
+      pub whole : 1 < orphanOf code → leftOf R starts depth o ≡ 0
 
     pub unrefused : refusalOf R code depth starts (length index) (length totals) ≡ 0 → Unrefused
     unrefused e =
         let l = bodies-length R starts depth o in
         let n = length (bodies R starts depth o) in
         let t = accepted R code depth starts (length index) (length totals) e in
-        record { allowed = allowed-here depth (orphanOf code) (t .sentence7); small = omega (arith, ltb-false 65535 n (or-no (ltb 65535 n) _ (t .sentence9) .0)) }
+        record {
+          allowed = allowed-here depth (orphanOf code) (t .sentence7);
+          whole = λ h. none-left-at R starts depth (orphanOf code) h (t .sentence7) (t .sentence8);
+          small = omega (arith, ltb-false 65535 n (or-no (ltb 65535 n) _ (t .sentence9) .0));
+        }
 
     zeroed : (q : ℕ) → Refused (answerWhen q false) index (indexBy false) totals (totalsBy false)
     zeroed q = record { n = refl; left = refl; zero-index = refl; zero-totals = refl; navigation = zeros-refused (length index) (replicate (length totals) (pos 0)) }
@@ -107,12 +125,12 @@ module _ (R : List Row) (code : ℕ) (depth : Depth) (starts : Row → Bool) whe
     held : HoldsImage (indexBy true) (bodies R starts depth o)
     held = holds-front (bodies R starts depth o) index
 
-    running : HoldsTotals (minutesOf R) W (totalsBy true)
+    running : HoldsTotals (minutesOf (withEntries R starts depth o)) W (totalsBy true)
     unfolding runningTotals
-    running = record { rest = drop (length (runningTotals R W)) totals; is = front-is (runningTotals R W) totals }
+    running = record { rest = drop (length (runningTotals (withEntries R starts depth o) W)) totals; is = front-is (runningTotals (withEntries R starts depth o) W) totals }
 
-    written : (q : ℕ) → Unrefused → Accepted (buildNodes R code depth starts) W (answerWhen q true) index (indexBy true) totals (totalsBy true)
-    unfolding runningTotals
+    written : (q : ℕ) → Unrefused → Accepted (buildNodes R code depth starts es) W (answerWhen q true) index (indexBy true) totals (totalsBy true)
+    unfolding runningTotals withEntries
     written q r = record {
       n = refl;
       count = count-here (nodes-forest R starts depth o) (described R starts depth o (r .allowed)) (short R starts depth o few) held;
@@ -127,17 +145,27 @@ module _ (R : List Row) (code : ℕ) (depth : Depth) (starts : Row → Bool) whe
 
     build-of : (fits : Type 0) → (fits → RowsFit R) → (q : ℕ) → q ≡ refusalOf R code depth starts (length index) (length totals)
         → PathBuild R code depth starts fits (answerWhen q (eqb q 0)) index (indexBy (eqb q 0)) totals (totalsBy (eqb q 0))
+    unfolding withEntries
     build-of fits f q e = record {
-      W = W;
-      nodes = node-list R starts depth o;
-      refusal = subst (BuildRefusal R code depth starts (length index) (length totals) W) (sym e) (first-sentence R code depth starts (length index) (length totals));
-      refused = λ n. subst (λ t. Refused (answerWhen q t) index (indexBy t) totals (totalsBy t)) (sym (ne-eqb q 0 n)) (zeroed q);
-      accepted = λ z. subst (λ t. Accepted (buildNodes R code depth starts) W (answerWhen q t) index (indexBy t) totals (totalsBy t)) (sym (eq-eqb q 0 z)) (written q (unrefused (sym e ∙ z)));
-      navigation = λ z. let r = unrefused (sym e ∙ z) in
-          subst (λ t. Navigation (minutesOf R) W fits (indexBy t) (totalsBy t)) (sym (eq-eqb q 0 z))
-          (navigation-here (nodes-forest R starts depth o) (described R starts depth o (r .allowed)) (short R starts depth o few) (r .small) held
-          (minutesOf R) fits (λ g p m. minutes-fit R (λ r i. f g r i .sfits) (last p)) running);
+      es = es;
+      entries = entries-joining R starts depth o;
+      build = record {
+        W = W;
+        nodes = node-list R starts depth o;
+        refusal = subst (BuildRefusal R code depth starts es (length index) (length totals) W) (sym e) (first-sentence R code depth starts (length index) (length totals));
+        refused = λ n. subst (λ t. Refused (answerWhen q t) index (indexBy t) totals (totalsBy t)) (sym (ne-eqb q 0 n)) (zeroed q);
+        accepted = λ z. subst (λ t. Accepted (buildNodes R code depth starts es) W (answerWhen q t) index (indexBy t) totals (totalsBy t)) (sym (eq-eqb q 0 z)) (written q (unrefused (sym e ∙ z)));
+        navigation = λ z. let r = unrefused (sym e ∙ z) in
+            subst (λ t. Navigation (minutesOf (joined R es)) W fits (indexBy t) (totalsBy t)) (sym (eq-eqb q 0 z))
+            (navigation-here (nodes-forest R starts depth o) (described R starts depth o (r .allowed)) (short R starts depth o few) (r .small) held
+            (minutesOf (joined R es)) fits (λ g p m. joined-fit R es (λ r i. f g r i .sfits) (last p)) running);
+      };
+      none-left = λ z h. let r = unrefused (sym e ∙ z) in ap (λ (n : ℕ). cond (eqb q 0) n 0) (r .whole h) ∙ no-more (eqb q 0);
     }
+      where
+        no-more : (t : Bool) → _≡_ {A = ℕ} (cond t 0 0) 0
+        no-more true = refl
+        no-more false = refl
 
 -- ---- a build on a sound board
 

@@ -22,9 +22,11 @@ use Rattle.image.specs.Sample.{listing}
 use Rattle.image.specs.SampleCases.{listingTotals, listing-words}
 use Rattle.paths.specs.Forest.{forest}
 use Rattle.paths.specs.Rows.{parentZero}
-use Rattle.paths.specs.Nodes.{sorted, starts, regular, orphanRows, tops, orphans, orphanNodes, nodes}
-use Rattle.paths.specs.Bodies.{bodies, leftRows, leftOf, runningTotals}
-use Rattle.paths.specs.Refusals.{refusalOf}
+use Rattle.paths.specs.Nodes.{sorted, starts, regular, orphanRows, tops, orphans, orphanNodes, rowNodes}
+use Rattle.islands.specs.Entries.{belowEntry, ringed, ringedRows, unreachedOf, entriesFrom, entryPathsFrom, islands, entries, entryPaths}
+use Rattle.nodes.specs.Nodes.{entriesOf, withEntries, entryNodes, nodes}
+use Rattle.nodes.specs.Bodies.{bodies, leftRows, leftOf, runningTotals}
+use Rattle.nodes.specs.Refusals.{refusalOf}
 use Rattle.paths.specs.Sample.{sample}
 use Rattle.navigate.specs.Navigate.{badRank, badSpan, descendantList, descendantsAnswer, descendantsOut}
 use Rattle.navigate.specs.Climb.{climbFrom, stuckFrom, ancestorsAnswer, ancestorsOut}
@@ -75,11 +77,11 @@ module _ (cs : List Call) (code : ℕ) (depth : Depth) (rule : Row → Bool) whe
 -- ---- the index and the totals of M1
 
 image-3 : builtIndex 3 ≡ imageWords listing
-unfolding sample listing sorted starts regular orphanRows tops orphans orphanNodes nodes bodies refusalOf levelLimit forest sort insert imageWords contentsWords flat bodyWords checked front
+unfolding sample listing sorted starts regular orphanRows tops orphans orphanNodes rowNodes islands entries entryPaths belowEntry ringed ringedRows unreachedOf entriesFrom entryPathsFrom entriesOf withEntries entryNodes nodes bodies refusalOf levelLimit forest sort insert imageWords contentsWords flat bodyWords checked front
 image-3 = index-is lines 3 None parentZero (replicate 62 0) 10
 
 totals-3 : builtTotals 3 ≡ listingTotals
-unfolding sample listingTotals sorted starts regular orphanRows tops orphans orphanNodes nodes bodies refusalOf levelLimit forest sort insert runningTotals front
+unfolding sample listingTotals sorted starts regular orphanRows tops orphans orphanNodes rowNodes islands entries entryPaths belowEntry ringed ringedRows unreachedOf entriesFrom entryPathsFrom entriesOf withEntries entryNodes nodes bodies refusalOf levelLimit forest sort insert runningTotals front
 totals-3 = totals-is lines 3 None parentZero 62 (replicate 10 (pos 0))
 
 read-3 : bodiesOf (imageWords listing) ≡ listing
@@ -90,7 +92,7 @@ index-2 : (k : ℕ) → bodyOf (builtIndex 2) k ≡ bodyOf (indexFor (after star
 index-2 k = ap (λ s. bodyOf s k) (index-is lines 2 None parentZero (replicate 62 0) 10)
 
 pub marked-cases : MarkedCases
-unfolding sample sorted starts regular orphanRows tops orphans orphanNodes nodes bodies leftRows leftOf refusalOf levelLimit forest sort insert imageWords contentsWords flat bodyWords checked front without listing listingTotals badContents badRank badSpan descendantList climbFrom stuckFrom beyond
+unfolding sample sorted starts regular orphanRows tops orphans orphanNodes rowNodes islands entries entryPaths belowEntry ringed ringedRows unreachedOf entriesFrom entryPathsFrom entriesOf withEntries entryNodes nodes bodies leftRows leftOf refusalOf levelLimit forest sort insert imageWords contentsWords flat bodyWords checked front without listing listingTotals badContents badRank badSpan descendantList climbFrom stuckFrom beyond
 marked-cases = record {
   m1 = built-is lines 3 None parentZero 62 10;
   m1-listing = ap bodiesOf image-3 ∙ read-3;

@@ -20,7 +20,8 @@ use Rattle.request.specs.declared.Start.{Start}
 use Rattle.request.specs.Build.{startRule, builtOf, indexAfter, totalsAfter}
 use Rattle.guarantee.specs.declared.ReplayedAll.{ReplayedAll}
 use Rattle.answers.specs.Answers.{Descendants, SubtreeSum}
-use Rattle.paths.specs.Bodies.{minutesOf}
+use Rattle.islands.specs.Islands.{joined}
+use Rattle.nodes.specs.Bodies.{minutesOf}
 use Rattle.guarantee.specs.Guarantee.{PathBuild}
 
 -- nothing was built or asked: each part of the answer bears the replay's number
@@ -74,7 +75,7 @@ pub record Demand3 (cs : List Call) (refusals : List ℕ) (code : ℕ) (depth : 
   pub undone : answer .undone ≡ length (after start cs .later)
   pub count : answer .count ≡ length (after start cs .rows)
   pub build : PathBuild (after start cs .rows) code depth (startRule rule list) (AllFit cs) (answer .built) index index' totals totals'
-  pub listed : answer .built .refusal ≡ 0 → Descendants (build .W) rank lower upper out (answer .listed) out'
+  pub listed : answer .built .refusal ≡ 0 → Descendants (build .build .W) rank lower upper out (answer .listed) out'
   pub unlisted : answer .built .refusal ≢ 0 → (answer .listed ≡ record { refusal = 13; len = 0 }) × (out' ≡ out)
-  pub summed : answer .built .refusal ≡ 0 → SubtreeSum (minutesOf (after start cs .rows)) (build .W) rank (answer .summed)
+  pub summed : answer .built .refusal ≡ 0 → SubtreeSum (minutesOf (joined (after start cs .rows) (build .es))) (build .build .W) rank (answer .summed)
   pub unsummed : answer .built .refusal ≢ 0 → answer .summed ≡ record { refusal = 13; sum = pos 0 }

@@ -166,10 +166,10 @@ module _ (words refusals : List ℕ) (code : ℕ) (depth : Depth) (rule : Start)
         undone = final-undone cs;
         count = final-count cs;
         build = b;
-        listed = λ z. b .navigation z .descendants rank lower upper out;
-        unlisted = λ n. b .refused n .navigation .descendants rank lower upper out;
-        summed = λ z. b .navigation z .subtree-sums (first-fit words w (length words / 5)) rank;
-        unsummed = λ n. b .refused n .navigation .subtree-sums rank;
+        listed = λ z. b .build .navigation z .descendants rank lower upper out;
+        unlisted = λ n. b .build .refused n .navigation .descendants rank lower upper out;
+        summed = λ z. b .build .navigation z .subtree-sums (first-fit words w (length words / 5)) rank;
+        unsummed = λ n. b .build .refused n .navigation .subtree-sums rank;
       }
 
   moved : (a b : ReplayedAll) (r s i j : List ℕ) (t u : List ℤ) (o p : List ℕ) → a ≡ b → r ≡ s → i ≡ j → t ≡ u → o ≡ p → Claim b s j u p → Claim a r i t o

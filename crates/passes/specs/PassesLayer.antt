@@ -1,9 +1,9 @@
 -- What is gathered from the bodies that a walk has written, rank by rank. Assumes nothing: these are definitions.
 use mathlib.Core.Path.{_≡_}
 use mathlib.Core.Logic.{_≢_}
-use mathlib.Core.Bool.{Bool, not, _&&_, _||_}
+use mathlib.Core.Bool.{Bool, cond, not, _&&_, _||_}
 use mathlib.Core.List.{List, map}
-use Prim.Native.Nat.{ℕ, _-_, _≤_, _<_}
+use Prim.Native.Nat.{ℕ, zero, suc, _-_, _≤_, _<_}
 use lib.Dec.{eqb, ltb}
 use lib.IntN.{ℤ, pos}
 use lib.ListN.{length, getD, replicate}
@@ -17,9 +17,17 @@ use Rattle.table.specs.TableLayer.{column, rowColumn, childColumn, nextColumn, 
 unfoldable pub rowsTo : List ℕ → ℕ → List ℕ
 rowsTo s n = map (rowAt s) (numbers 1 n)
 
--- the row number of each rank 1 to n is one of m rows
-abbrev pub Named : List ℕ → ℕ → ℕ → Type 0
-Named s n m = (k : ℕ) → 1 ≤ k → k ≤ n → (1 ≤ rowAt s k) × (rowAt s k ≤ m)
+-- the row numbers of the ranks after `from` to n
+unfoldable pub rowsFrom : List ℕ → ℕ → ℕ → List ℕ
+rowsFrom s from n = map (rowAt s) (numbers (suc from) (n - from))
+
+-- the row number of each rank after `from` to n is one of m rows
+abbrev pub Named : List ℕ → ℕ → ℕ → ℕ → Type 0
+Named s from n m = (k : ℕ) → from < k → k ≤ n → (1 ≤ rowAt s k) × (rowAt s k ≤ m)
+
+-- the row number of each rank 1 to n is one of m rows, or 0, that of an entry
+abbrev pub NamedOrEntry : List ℕ → ℕ → ℕ → Type 0
+NamedOrEntry s n m = (k : ℕ) → 1 ≤ k → k ≤ n → rowAt s k ≤ m
 
 -- row numbers of m rows, each at one position only
 pub record RowsOnce (rows : List ℕ) (m : ℕ) : Type 0 where
@@ -33,6 +41,14 @@ ByRow rows values out = (p : ℕ) → p < length rows → getD out (getD rows p 
 -- for each of m rows 1 where its number is one of xs, else 0
 unfoldable pub reachedFlags : List ℕ → ℕ → List ℕ
 reachedFlags xs m = map (λ x. bit (memb x xs)) (numbers 1 m)
+
+-- the flags of rows, by number from 1, with 1 for those of xs
+unfoldable pub markedBy : List ℕ → List ℕ → List ℕ
+markedBy xs flags = map (λ x. cond (memb x xs) 1 (getD flags (x - 1) 0)) (numbers 1 (length flags))
+
+-- a node of the ranks 1 to n is that of an entry
+unfoldable pub anyEntry : List ℕ → ℕ → Bool
+anyEntry s n = any (λ k. eqb (rowAt s k) 0) (numbers 1 n)
 
 -- a node of the ranks 1 to n closes
 unfoldable pub anyClosing : List ℕ → ℕ → Bool
@@ -78,9 +94,10 @@ pub record ClassesCounted (s : List ℕ) (n : ℕ) (t t′ : List ℕ) : Type 0 
   pub counts : nextColumn t′ ≡ classCounts (classesTo s (childColumn t) n) (length (nextColumn t))
   pub others : (j : ℕ) → j < 8 → j ≢ 4 → column j t′ ≡ column j t
 
--- the minutes of a row
+-- the minutes of a row, 0 of an entry
 unfoldable pub minutesAt : List ℤ → ℕ → ℤ
-minutesAt minutes x = getD minutes (x - 1) (pos 0)
+minutesAt minutes zero = pos 0
+minutesAt minutes (suc k) = getD minutes k (pos 0)
 
 -- the n + 1 running totals
 unfoldable pub totalsTo : List ℕ → List ℤ → ℕ → List ℤ

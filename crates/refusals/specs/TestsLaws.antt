@@ -1,20 +1,20 @@
 -- The tests before a walk are refusals 7, 8 and 9. Assumes nothing.
 use mathlib.Core.Path.{_≡_, refl, sym, ap, ap₂, _∙_}
 use mathlib.Core.Logic.{_⊎_, inl, inr}
-use mathlib.Core.Bool.{Bool, true, false, cond, not, _&&_, _||_, and-true, and-false, or-true, or-false}
+use mathlib.Core.Bool.{Bool, true, false, cond, not, _&&_, _||_, and-true, and-false}
 use mathlib.Core.List.{List}
 use Prim.Native.Nat.{ℕ, _+_, _-_, _*_, _≤_, _<_}
 use native.Mathlib.Omega.{arith}
-use borrow.Author.Tests.{eq-eqb, ne-eqb, lt-ltb, le-ltb, lt-leb, le-leb, ltb-true, ltb-false}
+use borrow.Author.Tests.{eq-eqb, ne-eqb, lt-ltb, le-ltb, ltb-true, ltb-false}
 use lib.Dec.{eqb, ltb}
 use lib.ListN.{length, getD}
 use Rattle.lists.specs.Lists.{numbers, any}
 use Rattle.lists.specs.CountingLaws.{any-here, any-past}
 use Rattle.options.specs.declared.Depth.{Depth}
 use Rattle.options.specs.declared.Depth.the-variants.{None, Limit}
-use Rattle.paths.specs.Refusals.{given, refusal7, refusal9}
-use Rattle.table.specs.TableLayer.{rowColumn, parentPositionColumn, flagColumn}
-use Rattle.refusals.specs.TestsLayer.{capacityOf, startAt, parentlessAt, lacksStart, earlyRefusal}
+use Rattle.nodes.specs.Refusals.{given, refusal7, refusal9}
+use Rattle.table.specs.TableLayer.{rowColumn, flagColumn}
+use Rattle.refusals.specs.TestsLayer.{capacityOf, startAt, lacksStart, earlyRefusal}
 
 -- ---- 7: a depth is given
 
@@ -60,57 +60,38 @@ short-totals n words totals h = go (ltb 65535 n) (ltb words (8 + 6 * n))
 
 -- ---- the test of refusal 8, position by position
 
--- no row before position p is a start row, and `found` tells whether one of them has no parent
-pub record NoStartTo (t : List ℕ) (p : ℕ) (found : Bool) : Type 0 where
-  pub starts-after : any (startAt t) (numbers 0 (length (rowColumn t))) ≡ any (startAt t) (numbers p (length (rowColumn t) - p))
-  pub parentless : any (parentlessAt t) (numbers 0 (length (rowColumn t))) ≡ (found || any (parentlessAt t) (numbers p (length (rowColumn t) - p)))
+-- no row before position p is a start row
+abbrev pub NoStartTo : List ℕ → ℕ → Type 0
+NoStartTo t p = any (startAt t) (numbers 0 (length (rowColumn t))) ≡ any (startAt t) (numbers p (length (rowColumn t) - p))
 
 module _ (orphan : ℕ) (t : List ℕ) where
   pub lacks-not-adopt : (orphan ≡ 2 → ⊥) → false ≡ lacksStart orphan t
   unfolding lacksStart
-  lacks-not-adopt n = sym (ap (λ (b : Bool). b && (not (any (startAt t) (numbers 0 (length (rowColumn t)))) && any (parentlessAt t) (numbers 0 (length (rowColumn t))))) (ne-eqb orphan 2 n))
+  lacks-not-adopt n = sym (ap (λ (b : Bool). b && (not (any (startAt t) (numbers 0 (length (rowColumn t)))) && ltb 0 (length (rowColumn t)))) (ne-eqb orphan 2 n))
 
-  pub no-start-none : NoStartTo t 0 false
-  no-start-none =
-      let e : length (rowColumn t) ≡ length (rowColumn t) - 0 = omega arith in
-      record { starts-after = ap (λ (j : ℕ). any (startAt t) (numbers 0 j)) e; parentless = ap (λ (j : ℕ). any (parentlessAt t) (numbers 0 j)) e }
+  pub no-start-none : NoStartTo t 0
+  no-start-none = let e : length (rowColumn t) ≡ length (rowColumn t) - 0 = omega arith in ap (λ (j : ℕ). any (startAt t) (numbers 0 j)) e
 
-  module _ {p : ℕ} {found : Bool} (h : NoStartTo t p found) where
+  module _ {p : ℕ} (h : NoStartTo t p) where
     pub lacks-not-bare : (flag : ℕ) → p < length (rowColumn t) → flag ≡ getD (flagColumn t) p 0 → flag ≡ 1 → false ≡ lacksStart orphan t
     unfolding lacksStart
     lacks-not-bare flag lt e one =
-        let some : any (startAt t) (numbers 0 (length (rowColumn t))) ≡ true = h .starts-after ∙ any-here (startAt t) (length (rowColumn t)) p lt ∙ ap (λ (b : Bool). b || any (startAt t) (numbers (p + 1) (length (rowColumn t) - (p + 1)))) (eq-eqb (getD (flagColumn t) p 0) 1 (sym e ∙ one)) in
-        sym (ap (λ (b : Bool). eqb orphan 2 && (not b && any (parentlessAt t) (numbers 0 (length (rowColumn t))))) some ∙ and-false (eqb orphan 2))
+        let some : any (startAt t) (numbers 0 (length (rowColumn t))) ≡ true =
+        h ∙ any-here (startAt t) (length (rowColumn t)) p lt ∙ ap (λ (b : Bool). b || any (startAt t) (numbers (p + 1) (length (rowColumn t) - (p + 1)))) (eq-eqb (getD (flagColumn t) p 0) 1 (sym e ∙ one)) in
+        sym (ap (λ (b : Bool). eqb orphan 2 && (not b && ltb 0 (length (rowColumn t)))) some ∙ and-false (eqb orphan 2))
 
-    module _ (lt : p < length (rowColumn t)) (flag : ℕ) (flag-is : flag ≡ getD (flagColumn t) p 0) (other : flag ≡ 1 → ⊥) (position : ℕ) (position-is : position ≡ getD (parentPositionColumn t) p 0) where
-      starts-next : any (startAt t) (numbers 0 (length (rowColumn t))) ≡ any (startAt t) (numbers (p + 1) (length (rowColumn t) - (p + 1)))
-      starts-next =
-          h .starts-after
-          ∙ any-here (startAt t) (length (rowColumn t)) p lt
-          ∙ ap (λ (b : Bool). b || any (startAt t) (numbers (p + 1) (length (rowColumn t) - (p + 1)))) (ne-eqb (getD (flagColumn t) p 0) 1 (λ z. other (flag-is ∙ z)))
+    pub no-start-next : (flag : ℕ) → p < length (rowColumn t) → flag ≡ getD (flagColumn t) p 0 → (flag ≡ 1 → ⊥) → NoStartTo t (p + 1)
+    no-start-next flag lt e other =
+        h
+        ∙ any-here (startAt t) (length (rowColumn t)) p lt
+        ∙ ap (λ (b : Bool). b || any (startAt t) (numbers (p + 1) (length (rowColumn t) - (p + 1)))) (ne-eqb (getD (flagColumn t) p 0) 1 (λ z. other (e ∙ z)))
 
-      pub no-start-found : length (rowColumn t) ≤ position → NoStartTo t (p + 1) true
-      no-start-found le = record {
-        starts-after = starts-next;
-        parentless =
-            h .parentless
-            ∙ ap (λ (b : Bool). found || b) (any-here (parentlessAt t) (length (rowColumn t)) p lt ∙ ap (λ (b : Bool). b || any (parentlessAt t) (numbers (p + 1) (length (rowColumn t) - (p + 1)))) (le-leb (length (rowColumn t)) (getD (parentPositionColumn t) p 0) (omega arith)))
-            ∙ or-true found;
-      }
-
-      pub no-start-next : position < length (rowColumn t) → NoStartTo t (p + 1) found
-      no-start-next gt = record {
-        starts-after = starts-next;
-        parentless =
-            h .parentless
-            ∙ ap (λ (b : Bool). found || b) (any-here (parentlessAt t) (length (rowColumn t)) p lt ∙ ap (λ (b : Bool). b || any (parentlessAt t) (numbers (p + 1) (length (rowColumn t) - (p + 1)))) (lt-leb (length (rowColumn t)) (getD (parentPositionColumn t) p 0) (omega arith)));
-      }
-
-    pub lacks-found : orphan ≡ 2 → length (rowColumn t) ≤ p → found ≡ lacksStart orphan t
+    pub lacks-found : (n : ℕ) → n ≡ length (rowColumn t) → orphan ≡ 2 → length (rowColumn t) ≤ p → ltb 0 n ≡ lacksStart orphan t
     unfolding lacksStart
-    lacks-found two past =
-        sym (ap (λ (b : Bool). b && (not (any (startAt t) (numbers 0 (length (rowColumn t)))) && any (parentlessAt t) (numbers 0 (length (rowColumn t))))) (eq-eqb orphan 2 two)
-        ∙ ap₂ (λ (a b : Bool). not a && b) (h .starts-after ∙ any-past (startAt t) (length (rowColumn t)) p past) (h .parentless ∙ ap (λ (b : Bool). found || b) (any-past (parentlessAt t) (length (rowColumn t)) p past) ∙ or-false found))
+    lacks-found n e two past =
+        ap (ltb 0) e
+        ∙ sym (ap (λ (b : Bool). b && (not (any (startAt t) (numbers 0 (length (rowColumn t)))) && ltb 0 (length (rowColumn t)))) (eq-eqb orphan 2 two)
+        ∙ ap (λ (a : Bool). not a && ltb 0 (length (rowColumn t))) (h ∙ any-past (startAt t) (length (rowColumn t)) p past))
 
 -- ---- the branches of the test of refusal 7
 

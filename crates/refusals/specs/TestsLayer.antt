@@ -2,10 +2,10 @@
 use mathlib.Core.Bool.{Bool, cond, not, _&&_}
 use mathlib.Core.List.{List}
 use Prim.Native.Nat.{ℕ, _-_, _/_, min}
-use lib.Dec.{eqb, leb, ltb}
+use lib.Dec.{eqb, ltb}
 use lib.ListN.{length, getD}
 use Rattle.lists.specs.Lists.{numbers, any}
-use Rattle.table.specs.TableLayer.{rowColumn, parentPositionColumn, flagColumn}
+use Rattle.table.specs.TableLayer.{rowColumn, flagColumn}
 
 -- how many nodes the slices hold, at most 65,535; the index has 8 words or more, the totals one or more
 unfoldable pub capacityOf : ℕ → ℕ → ℕ
@@ -15,14 +15,9 @@ capacityOf words totals = min 65535 (min ((words - 8) / 6) (totals - 1))
 abbrev pub startAt : List ℕ → ℕ → Bool
 startAt t p = eqb (getD (flagColumn t) p 0) 1
 
--- the parent of the row at a position is no row's numeral
-abbrev pub parentlessAt : List ℕ → ℕ → Bool
-parentlessAt t p = leb (length (rowColumn t)) (getD (parentPositionColumn t) p 0)
-
--- adopt, no start row, and a row without a parent
+-- adopt, no start row, and a row: each is then a row of U, and hangs from a top orphan or from an island
 unfoldable pub lacksStart : ℕ → List ℕ → Bool
-lacksStart orphan t =
-    eqb orphan 2 && (not (any (startAt t) (numbers 0 (length (rowColumn t)))) && any (parentlessAt t) (numbers 0 (length (rowColumn t))))
+lacksStart orphan t = eqb orphan 2 && (not (any (startAt t) (numbers 0 (length (rowColumn t)))) && ltb 0 (length (rowColumn t)))
 
 -- refusal 8, refusal 9 where a slice has no room for an index or totals of no node, or 0
 unfoldable pub earlyRefusal : Bool → ℕ → ℕ → ℕ

@@ -2,7 +2,7 @@
 ghost use mathlib.Core.Path.{_≡_};
 ghost use Prim.Native.Nat.{_≤_, min};
 ghost use lib.ListN.{length};
-ghost use Rattle.paths.specs.Refusals.{given, refusal7};
+ghost use Rattle.nodes.specs.Refusals.{given, refusal7};
 ghost use Rattle.table.specs.TableLayer.{rowColumn};
 ghost use Rattle.refusals.specs.TestsLayer.{capacityOf, lacksStart, earlyRefusal};
 use options::Depth;
@@ -41,7 +41,7 @@ pub fn is_depth_refused(orphan: u32, depth: Depth) -> bool
     is_given(depth)
 }
 
-// Whether adopt meets a top orphan and there is no start row: without one every row is outside the regular paths.
+// Whether adopt meets a top orphan or an island and there is no start row: without one every row is outside the regular paths.
 fn lacks_start(orphan: u32, table: &[u32]) -> bool
     requires { ⌜ length (rowColumn (now table)) ≤ 1024 ⌝ }
     ensures { λ r. ⌜ r ≡ lacksStart orphan (now (table .entry)) ⌝ }
@@ -50,19 +50,14 @@ fn lacks_start(orphan: u32, table: &[u32]) -> bool
         return false;
     }
     let n = table::rows(table);
-    let mut found = false;
     let mut p = 0;
     while (p as usize) < n {
         if table::flag(table, p) == 1 {
             return false;
         }
-        let position = table::parent_position(table, p) as usize;
         p += 1;
-        if n <= position {
-            found = true;
-        }
     }
-    found
+    0 < n
 }
 
 // Refusal 8, refusal 9 where a slice has no room for an index or totals of no node, or 0.

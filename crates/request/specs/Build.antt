@@ -1,4 +1,4 @@
--- What a build answers and what it leaves in its two slices, for every argument: paper 01, "Paths", "Index image" and refusals 1 and 6 to 12. Assumes nothing: these are definitions.
+-- What a build answers and what it leaves in its two slices, for every argument: paper 01, "Paths", "Index image" and refusals 1 and 6 to 12; islands as request 2.3 of paper 02 has them. Assumes nothing: these are definitions.
 use mathlib.Core.Bool.{Bool, cond}
 use mathlib.Core.List.{List}
 use Prim.Native.Nat.{ℕ}
@@ -14,9 +14,9 @@ use Rattle.options.specs.declared.Depth.the-variants.{None}
 use Rattle.options.specs.Options.{orphanOf}
 use Rattle.image.specs.Layout.{imageWords}
 use Rattle.paths.specs.Rows.{parentZero, numeralIn}
-use Rattle.paths.specs.Nodes.{nodes}
-use Rattle.paths.specs.Bodies.{bodies, runningTotals, leftOf}
-use Rattle.paths.specs.Refusals.{orphanChoice, refusalOf}
+use Rattle.nodes.specs.Nodes.{withEntries, nodes}
+use Rattle.nodes.specs.Bodies.{bodies, runningTotals, leftOf}
+use Rattle.nodes.specs.Refusals.{orphanChoice, refusalOf}
 use Rattle.request.specs.declared.Start.{Start}
 use Rattle.request.specs.declared.Start.the-variants.{ParentZero, Listed}
 use Rattle.request.specs.declared.Built.{Built}
@@ -54,7 +54,7 @@ indexAfter b code depth start index totals =
 unfoldable pub totalsAfter : Board → ℕ → Depth → (Row → Bool) → ℕ → List ℤ → List ℤ
 totalsAfter b code depth start words totals =
     cond (eqb (buildRefusal b code depth start words (length totals)) 0)
-    (front (runningTotals (rowsOf b) (nodes (rowsOf b) start depth (orphanChoice (orphanOf code)))) totals)
+    (front (runningTotals (withEntries (rowsOf b) start depth (orphanChoice (orphanOf code))) (nodes (rowsOf b) start depth (orphanChoice (orphanOf code)))) totals)
     (replicate (length totals) (pos 0))
 
 -- a build by default: option code 0, no depth, the rows with parent 0

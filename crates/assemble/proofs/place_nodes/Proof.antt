@@ -22,7 +22,7 @@ returns : tie.Need-returns
 returns c =
     let s = c .before .before .before .before .before .before .before .before in
     λ R start code y e six.
-    early-built R code (s .args .depth) start _ (y .prepared) (y .flags-are) (y .numbered) (s .args .choice) e six (seven-is code (s .args .choice) (s .args .depth) e ∙ s .pre .1 .0 .1) _ _ _ _ _ _ (c .before .before .early-refusal .ensures) (c .before .if1 .taken) (c .refused .ensures)
+    early-built R code (s .args .depth) start _ (y .prepared) (y .flags-are) (s .args .choice) e six (seven-is code (s .args .choice) (s .args .depth) e ∙ s .pre .1 .0 .1) _ _ _ _ _ _ (c .before .before .early-refusal .ensures) (c .before .if1 .taken) (c .refused .ensures)
 
 capacity-requires : tie.Need-capacity-requires
 capacity-requires c κs =
@@ -59,7 +59,7 @@ returns-2 c =
     let s = c .before .before .before .before .before .before .before .before .before .before .before .before .before .before .before .before .before .before .before .before .before .before .before in
     λ R start code y e six.
     c .before .before .before .before .before .before .before .before .before .write-nodes .ensures R start code y e six (seven-is code (s .args .choice) (s .args .depth) e ∙ s .pre .1 .0 .1)
-    (early-start R code (s .args .depth) start _ (y .prepared) (y .flags-are) (y .numbered) (s .args .choice) e _ _ _ (c .before .before .before .before .before .before .before .before .before .before .before .before .before .before .before .before .before .early-refusal .ensures) (c .before .before .before .before .before .before .before .before .before .before .before .before .before .before .before .before .if1 .left))
+    (early-start R code (s .args .depth) start _ (y .prepared) (y .flags-are) (s .args .choice) e _ _ _ (c .before .before .before .before .before .before .before .before .before .before .before .before .before .before .before .before .before .early-refusal .ensures) (c .before .before .before .before .before .before .before .before .before .before .before .before .before .before .before .before .if1 .left))
 
 pub place-nodes-spec : {M : Type 1} → statement M
 place-nodes-spec =

@@ -7,13 +7,13 @@ use Rattle.table.specs.TableLayer.{rowColumn}
 use Rattle.table.specs.TableLaws.{column-length}
 use Rattle.options.specs.Options.{levelLimit}
 use Rattle.enumerate.specs.OrphanLaws.{prepared-few, prepared-walkable}
-use Rattle.enumerate.specs.EnumerateLaws.{last-in, limit-rows, no-starts, over-walked, plain-walked, no-start-walked, begun-marks, begun-named, root-walked, adopt-before, adopt-size, adopt-walked, workspace-kept, choice-two, by-choice, rows-kept}
+use Rattle.enumerate.specs.EnumerateLaws.{last-in, limit-rows, no-starts, over-walked, plain-walked, no-start-walked, begun-marks, begun-written, root-walked, adopt-before, adopt-size, adopt-walked, workspace-kept, choice-two, by-choice, rows-kept}
 use Rattle.enumerate.proofs.enumerate.Statement.{statement}
 use Rattle.enumerate.proofs.enumerate.Tie as tie
 use Rattle.enumerate.proofs.enumerate.Reads as reads
 use Rattle.enumerate.proofs.enumerate.Lts as lts
 use Rattle.enumerate.proofs.adopt.Reads as adopt-reads
-use Rattle.enumerate.proofs.walk_orphans.Reads as walk-orphans-reads
+use Rattle.enumerate.proofs.walk_outside.Reads as walk-outside-reads
 use Rattle.enumerate.proofs.walk_starts.Reads as walk-starts-reads
 use Rattle.options.proofs.level_limit.Reads as level-limit-reads
 use Rattle.orphans.proofs.last_flag.Reads as last-flag-reads
@@ -77,16 +77,16 @@ returns-2 c =
       rows-kept _,
     )
 
-walk-orphans-requires : tie.Need-walk-orphans-requires
-walk-orphans-requires c κs =
+walk-outside-requires : tie.Need-walk-outside-requires
+walk-outside-requires c κs =
     let s = c .before .before .before .before .before .before .before .before .before .before .before .before .before .before .before .before .before .before .before .before .before .before .before .before .before in
     let y = s .pre .0 .prepared in
     let f = s .pre .0 .flags-are in
     let lim = limit-rows (s .pre .0 .R) (s .pre .0 .start) (s .args .depth) _ y f _ (c .before .before .before .before .before .before .before .before .before .before .before .before .before .before .before .before .level-limit .ensures ∙ ap (levelLimit (s .args .depth)) (c .before .before .before .before .before .before .before .before .before .before .before .before .before .before .before .before .before .before .before .rows .ensures 0)) in
     let m = begun-marks (s .pre .0 .R) (s .pre .0 .start) (s .args .depth) _ y f _ _ _ _ _ _ (s .pre .1 .0 .3) (s .pre .1 .1 .marks-clear) _ lim _ (c .before .before .before .before .before .before .before .before .before .before .before .before .walk-starts .ensures) (c .before .before .before .before .before .before .if1 .left) in
-    let n = begun-named (s .pre .0 .R) (s .pre .0 .start) (s .args .depth) _ y f _ _ _ _ _ _ (s .pre .1 .0 .3) (s .pre .1 .1 .marks-clear) _ lim _ (c .before .before .before .before .before .before .before .before .before .before .before .before .walk-starts .ensures) (c .before .before .before .before .before .before .if1 .left) in (
-      s .pre .0,
-      ((c .before .before .before .before .before .before .if1 .left, s .pre .1 .0 .2, omega (arith, s .pre .1 .0, c .before .before .before .before .before .before .before .before .before .index .given), n), workspace-kept _ _ _ _ m (s .pre .1 .1)),
+    let n = begun-written (s .pre .0 .R) (s .pre .0 .start) (s .args .depth) _ y f _ _ _ _ _ _ (s .pre .1 .0 .3) (s .pre .1 .1 .marks-clear) _ lim _ (c .before .before .before .before .before .before .before .before .before .before .before .before .walk-starts .ensures) (c .before .before .before .before .before .before .if1 .left) (s .pre .1 .0 .1 (omega (arith, c .before .before .before .before .if3 .taken))) (s .pre .0 .numbered) in (
+      record { R = s .pre .0 .R; start = s .pre .0 .start; written = n },
+      ((c .before .before .before .before .before .before .if1 .left, s .pre .1 .0 .2, omega (arith, s .pre .1 .0, c .before .before .before .before .before .before .before .before .before .index .given)), workspace-kept _ _ _ _ m (s .pre .1 .1)),
     )
 
 same-length-7 : tie.Need-same-length-7
@@ -107,9 +107,9 @@ returns-3 c =
       λ R start y f z.
           let lim = limit-rows R start (s .args .depth) _ y f _ (c .before .before .before .before .before .before .before .before .before .before .before .before .before .before .before .before .before .before .before .before .before .before .before .before .before .level-limit .ensures ∙ ap (levelLimit (s .args .depth)) (c .before .before .before .before .before .before .before .before .before .before .before .before .before .before .before .before .before .before .before .before .before .before .before .before .before .before .before .before .rows .ensures 0)) in
           let none = s .pre .1 .0 .1 (omega (arith, c .before .before .before .before .before .before .before .before .before .before .before .before .before .if3 .taken)) in
-          let w = root-walked R start (s .args .depth) _ y f _ _ _ _ _ _ (s .pre .1 .0 .3) (s .pre .1 .1 .marks-clear) _ lim _ (c .before .before .before .before .before .before .before .before .before .before .before .before .before .before .before .before .before .before .before .before .before .walk-starts .ensures) (c .before .before .before .before .before .before .before .before .before .before .before .before .before .before .before .if1 .left) none _ _ _ (c .before .before .before .before .before .before .before .before .walk-orphans .ensures .0 R y z) in
+          let w = root-walked R start (s .args .depth) _ y f _ _ _ _ _ _ (s .pre .1 .0 .3) (s .pre .1 .1 .marks-clear) _ lim _ (c .before .before .before .before .before .before .before .before .before .before .before .before .before .before .before .before .before .before .before .before .before .walk-starts .ensures) (c .before .before .before .before .before .before .before .before .before .before .before .before .before .before .before .if1 .left) none _ _ _ (c .before .before .before .before .before .before .before .before .walk-outside .ensures .0 R start (begun-written R start (s .args .depth) _ y f _ _ _ _ _ _ (s .pre .1 .0 .3) (s .pre .1 .1 .marks-clear) _ lim _ (c .before .before .before .before .before .before .before .before .before .before .before .before .before .before .before .before .before .before .before .before .before .walk-starts .ensures) (c .before .before .before .before .before .before .before .before .before .before .before .before .before .before .before .if1 .left) none z)) in
           by-choice R start (s .args .depth) (s .args .orphan) 3 (c .before .before .before .before .before .before .before .before .before .before .before .before .before .if3 .taken) _ _ _ _ _ _ _ _ w,
-      c .before .before .before .before .before .before .before .before .walk-orphans .ensures .1,
+      c .before .before .before .before .before .before .before .before .walk-outside .ensures .1,
     )
 
 same-length-11 : tie.Need-same-length-11
@@ -145,11 +145,11 @@ adopt-requires c κs =
     let none = s .pre .1 .0 .1 (omega (arith, two)) in
     let inside : c .before .before .before .before .before .before .before .before .before .before .before .before .before .before .before .before .before .before .last-flag .result < length (rowColumn (s .args .table .now)) = omega (arith, c .before .before .before .before .if4 .left, c .before .before .before .before .before .before .before .before .before .before .before .before .before .before .before .before .before .before .before .before .rows .ensures 0) in
     let m = begun-marks (s .pre .0 .R) (s .pre .0 .start) (s .args .depth) _ y f _ _ _ _ _ _ (s .pre .1 .0 .3) (s .pre .1 .1 .marks-clear) _ lim _ (c .before .before .before .before .before .before .before .before .before .before .before .before .before .walk-starts .ensures) (c .before .before .before .before .before .before .before .if1 .left) in
-    let n = begun-named (s .pre .0 .R) (s .pre .0 .start) (s .args .depth) _ y f _ _ _ _ _ _ (s .pre .1 .0 .3) (s .pre .1 .1 .marks-clear) _ lim _ (c .before .before .before .before .before .before .before .before .before .before .before .before .before .walk-starts .ensures) (c .before .before .before .before .before .before .before .if1 .left) in
+    let n = begun-written (s .pre .0 .R) (s .pre .0 .start) (s .args .depth) _ y f _ _ _ _ _ _ (s .pre .1 .0 .3) (s .pre .1 .1 .marks-clear) _ lim _ (c .before .before .before .before .before .before .before .before .before .before .before .before .before .walk-starts .ensures) (c .before .before .before .before .before .before .before .if1 .left) none (s .pre .0 .numbered) in
     let before = adopt-before (s .pre .0 .R) (s .pre .0 .start) (s .args .depth) _ y f _ _ _ _ _ _ (s .pre .1 .0 .3) (s .pre .1 .1 .marks-clear) _ lim _ (c .before .before .before .before .before .before .before .before .before .before .before .before .before .walk-starts .ensures) (c .before .before .before .before .before .before .before .if1 .left) none (c .before .before .before .before .before .before .before .before .before .before .before .before .before .before .before .before .before .before .last-flag .ensures) inside in
     let size = adopt-size (s .pre .0 .R) (s .pre .0 .start) (s .args .depth) _ y f _ _ _ _ _ _ (s .pre .1 .0 .3) (s .pre .1 .1 .marks-clear) _ lim _ (c .before .before .before .before .before .before .before .before .before .before .before .before .before .walk-starts .ensures) (c .before .before .before .before .before .before .before .if1 .left) none (c .before .before .before .before .before .before .before .before .before .before .before .before .before .before .before .before .before .before .last-flag .ensures) inside in (
-      s .pre .0,
-      ((before, c .before .before .before .before .before .before .before .if1 .left, s .pre .1 .0 .2, omega (arith, s .pre .1 .0, c .before .before .before .before .before .before .before .before .before .before .index .given), n, size), workspace-kept _ _ _ _ m (s .pre .1 .1)),
+      record { R = s .pre .0 .R; start = s .pre .0 .start; written = n },
+      ((before, c .before .before .before .before .before .before .before .if1 .left, s .pre .1 .0 .2, omega (arith, s .pre .1 .0, c .before .before .before .before .before .before .before .before .before .before .index .given), size), workspace-kept _ _ _ _ m (s .pre .1 .1)),
     )
 
 same-length-14 : tie.Need-same-length-14
@@ -172,7 +172,7 @@ returns-5 c =
           let two = choice-two (s .args .orphan) (s .pre .1 .0 .0) (λ h. absurd (omega (arith, h, c .before .before .before .before .before .before .before .before .before .before .before .before .before .before .before .if2 .left))) (c .before .before .before .before .before .before .before .before .before .before .before .before .before .before .if3 .left) in
           let none = s .pre .1 .0 .1 (omega (arith, two)) in
           let inside : c .before .before .before .before .before .before .before .before .before .before .before .before .before .before .before .before .before .before .before .before .before .before .before .before .before .before .before .last-flag .result < length (rowColumn (s .args .table .now)) = omega (arith, c .before .before .before .before .before .before .before .before .before .before .before .before .before .if4 .left, c .before .before .before .before .before .before .before .before .before .before .before .before .before .before .before .before .before .before .before .before .before .before .before .before .before .before .before .before .before .rows .ensures 0) in
-          let w = adopt-walked R start (s .args .depth) _ y f _ _ _ _ _ _ (s .pre .1 .0 .3) (s .pre .1 .1 .marks-clear) _ lim _ (c .before .before .before .before .before .before .before .before .before .before .before .before .before .before .before .before .before .before .before .before .before .before .walk-starts .ensures) (c .before .before .before .before .before .before .before .before .before .before .before .before .before .before .before .before .if1 .left) none (c .before .before .before .before .before .before .before .before .before .before .before .before .before .before .before .before .before .before .before .before .before .before .before .before .before .before .before .last-flag .ensures) inside _ _ _ (c .before .before .before .before .before .before .before .before .adopt .ensures .0 R y z) in
+          let w = adopt-walked R start (s .args .depth) _ y f _ _ _ _ _ _ (s .pre .1 .0 .3) (s .pre .1 .1 .marks-clear) _ lim _ (c .before .before .before .before .before .before .before .before .before .before .before .before .before .before .before .before .before .before .before .before .before .before .walk-starts .ensures) (c .before .before .before .before .before .before .before .before .before .before .before .before .before .before .before .before .if1 .left) none (c .before .before .before .before .before .before .before .before .before .before .before .before .before .before .before .before .before .before .before .before .before .before .before .before .before .before .before .last-flag .ensures) inside _ _ _ (c .before .before .before .before .before .before .before .before .adopt .ensures .0 R start (begun-written R start (s .args .depth) _ y f _ _ _ _ _ _ (s .pre .1 .0 .3) (s .pre .1 .1 .marks-clear) _ lim _ (c .before .before .before .before .before .before .before .before .before .before .before .before .before .before .before .before .before .before .before .before .before .before .walk-starts .ensures) (c .before .before .before .before .before .before .before .before .before .before .before .before .before .before .before .before .if1 .left) none z)) in
           by-choice R start (s .args .depth) (s .args .orphan) 2 two _ _ _ _ _ _ _ _ w,
       c .before .before .before .before .before .before .before .before .adopt .ensures .1,
     )
@@ -194,7 +194,7 @@ enumerate-spec =
     same-length-5
     same-length-6
     returns-2
-    walk-orphans-requires
+    walk-outside-requires
     same-length-7
     same-length-8
     same-length-9

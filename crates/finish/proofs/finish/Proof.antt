@@ -1,9 +1,7 @@
 use mathlib.Core.Path.{refl, _∙_}
-use Rattle.lists.specs.StoreLaws.{zeros-length, zeros-whole}
-use Rattle.finish.specs.FinishLaws.{held, few-ranks, named-in, count-few, minutes-long, finished-closed, finished-shared, finished-left, finished-all}
+use Rattle.finish.specs.FinishLaws.{held, few-ranks, high, named-in, rows-named, minutes-long, finished-closed, finished-shared, finished-left, finished-all}
 use borrow.Author.Needs.{needs}
 use native.Mathlib.Omega.{arith}
-use lib.ListN.{length}
 use Rattle.finish.proofs.finish.Statement.{statement}
 use Rattle.finish.proofs.finish.Tie as tie
 
@@ -15,8 +13,7 @@ write-contents-requires c κs = search needs
 
 is-closed-requires : tie.Need-is-closed-requires
 is-closed-requires c κs =
-    let p = c .before .before .before .before .before .before .before .before .before .pre in
-    few-ranks (held (p .0 .written) _ (c .before .before .before .write-contents .ensures))
+    few-ranks (held (c .before .before .before .before .before .before .before .before .before .pre .0 .written) _ (c .before .before .before .write-contents .ensures))
 
 refused-requires : tie.Need-refused-requires
 refused-requires c κs = search needs
@@ -27,7 +24,7 @@ same-length c = search needs
 returns : tie.Need-returns
 returns c =
     let e = c .before .before .before .before .before .before .write-contents .ensures in
-    λ R bs before w k m. finished-closed R _ bs before _ _ w _ e _ _ _ _ _ (c .before .before .is-closed .ensures) (c .before .if1 .taken) (c .refused .ensures)
+    λ R bs before w l k m. finished-closed R _ bs before _ _ w l _ e _ _ _ _ _ (c .before .before .is-closed .ensures) (c .before .if1 .taken) (c .refused .ensures)
 
 is-shared-requires : tie.Need-is-shared-requires
 is-shared-requires c κs =
@@ -46,25 +43,13 @@ same-length-3 c = search needs
 returns-2 : tie.Need-returns-2
 returns-2 c =
     let e = c .before .before .before .before .before .before .before .before .before .before .before .before .write-contents .ensures in
-    λ R bs before w k m. finished-shared R _ bs before _ _ w _ e _ _ _ _ _ (c .before .before .before .before .before .before .before .before .is-closed .ensures) (c .before .before .before .before .before .before .before .if1 .left) _ (c .before .before .before .before .is-shared .ensures R bs (held w _ e) k) (c .before .if2 .taken) (c .refused2 .ensures)
+    λ R bs before w l k m. finished-shared R _ bs before _ _ w l _ e _ _ _ _ _ (c .before .before .before .before .before .before .before .before .is-closed .ensures) (c .before .before .before .before .before .before .before .if1 .left) _ (c .before .before .before .before .is-shared .ensures R bs (held w _ e) k) (c .before .if2 .taken) (c .refused2 .ensures)
 
-clear-requires : tie.Need-clear-requires
-clear-requires c κs = search needs
-
-mark-rows-requires : tie.Need-mark-rows-requires
-mark-rows-requires c κs =
-    let p = c .before .before .before .before .before .before .before .before .before .before .before .before .before .before .before .before .before .before .before .before .before .before .before .pre in
-    let h = held (p .0 .written) _ (c .before .before .before .before .before .before .before .before .before .before .before .before .before .before .before .before .before .write-contents .ensures) in
-    let z = c .before .before .before .before .clear .ensures in
-    (few-ranks h, named-in h _ (zeros-length (c .before .before .before .before .clear .last .0) (length (c .before .before .before .before .before .before .before .before .before .before .before .before .before .before .before .before .before .before .before .before .before .before .before .args .reached .now)) z ∙ p .1 .0 ∙ p .0 .classes .row-long), zeros-whole (c .before .before .before .before .clear .last .0) (length (c .before .before .before .before .before .before .before .before .before .before .before .before .before .before .before .before .before .before .before .before .before .before .before .args .reached .now)) z)
-
-count-clear-requires : tie.Need-count-clear-requires
-count-clear-requires c κs = search needs
-
-cast-left : tie.Need-cast-left
-cast-left c =
-    let p = c .before .before .before .before .before .before .before .before .before .before .before .before .before .before .before .before .before .before .before .before .before .before .before .before .before .before .before .before .pre in
-    omega (arith, count-few _ _ _ _ (c .before .before .before .before .mark-rows .ensures) (c .count-clear .ensures) (omega (arith, zeros-length (c .before .before .before .before .before .before .before .before .before .clear .last .0) (length (c .before .before .before .before .before .before .before .before .before .before .before .before .before .before .before .before .before .before .before .before .before .before .before .before .before .before .before .before .args .reached .now)) (c .before .before .before .before .before .before .before .before .before .clear .ensures), p .1 .0, p .0 .classes .row-long, p .0 .classes .few)))
+count-left-requires : tie.Need-count-left-requires
+count-left-requires c κs =
+    let p = c .before .before .before .before .before .before .before .before .before .before .before .before .before .before .before .before .before .before .before .pre in
+    let h = held (p .0 .written) _ (c .before .before .before .before .before .before .before .before .before .before .before .before .before .write-contents .ensures) in
+    (few-ranks h, (λ o. named-in h (rows-named h (p .0 .written .named o)) _ (p .1 .0 ∙ p .0 .classes .row-long)), omega (arith, p .1 .0, p .0 .classes .row-long, p .0 .classes .few))
 
 is-left-requires : tie.Need-is-left-requires
 is-left-requires c κs = search needs
@@ -83,15 +68,15 @@ same-length-6 c = search needs
 
 returns-3 : tie.Need-returns-3
 returns-3 c =
-    let p = c .before .before .before .before .before .before .before .before .before .before .before .before .before .before .before .before .before .before .before .before .before .before .before .before .before .before .before .before .before .before .before .pre in
-    let e = c .before .before .before .before .before .before .before .before .before .before .before .before .before .before .before .before .before .before .before .before .before .before .before .before .before .write-contents .ensures in
-    λ R bs before w k m. finished-left R _ bs before _ _ w _ e _ _ _ _ _ (c .before .before .before .before .before .before .before .before .before .before .before .before .before .before .before .before .before .before .before .before .before .is-closed .ensures) (c .before .before .before .before .before .before .before .before .before .before .before .before .before .before .before .before .before .before .before .before .if1 .left) _ (c .before .before .before .before .before .before .before .before .before .before .before .before .before .before .before .before .before .is-shared .ensures R bs (held w _ e) k) (c .before .before .before .before .before .before .before .before .before .before .before .before .before .before .if2 .left) _ _ (zeros-length (c .before .before .before .before .before .before .before .before .before .before .before .before .clear .last .0) (length (c .before .before .before .before .before .before .before .before .before .before .before .before .before .before .before .before .before .before .before .before .before .before .before .before .before .before .before .before .before .before .before .args .reached .now)) (c .before .before .before .before .before .before .before .before .before .before .before .before .clear .ensures) ∙ p .1 .0 ∙ k .row-long) (c .before .before .before .before .before .before .before .mark-rows .ensures) _ (c .before .before .before .count-clear .ensures) _ (c .before .before .is-left .ensures) (c .before .if3 .taken) (c .refused3 .ensures)
+    let p = c .before .before .before .before .before .before .before .before .before .before .before .before .before .before .before .before .before .before .before .before .before .before .before .before .before .pre in
+    let e = c .before .before .before .before .before .before .before .before .before .before .before .before .before .before .before .before .before .before .before .write-contents .ensures in
+    λ R bs before w l k m. finished-left R _ bs before _ _ w l _ e _ _ _ _ _ (c .before .before .before .before .before .before .before .before .before .before .before .before .before .before .before .is-closed .ensures) (c .before .before .before .before .before .before .before .before .before .before .before .before .before .before .if1 .left) _ (c .before .before .before .before .before .before .before .before .before .before .before .is-shared .ensures R bs (held w _ e) k) (c .before .before .before .before .before .before .before .before .if2 .left) _ (p .1 .0 ∙ k .row-long) _ (c .before .before .before .before .before .count-left .ensures) _ (c .before .before .is-left .ensures) (c .before .if3 .taken) (c .refused3 .ensures)
 
 fill-totals-requires : tie.Need-fill-totals-requires
 fill-totals-requires c κs =
-    let p = c .before .before .before .before .before .before .before .before .before .before .before .before .before .before .before .before .before .before .before .before .before .before .before .before .before .before .before .before .before .before .before .before .pre in
-    let h = held (p .0 .written) _ (c .before .before .before .before .before .before .before .before .before .before .before .before .before .before .before .before .before .before .before .before .before .before .before .before .before .before .write-contents .ensures) in
-    (few-ranks h, p .1 .1, named-in h _ (minutes-long (p .0 .R) _ (p .0 .minutes-are)))
+    let p = c .before .before .before .before .before .before .before .before .before .before .before .before .before .before .before .before .before .before .before .before .before .before .before .before .before .before .pre in
+    let h = held (p .0 .written) _ (c .before .before .before .before .before .before .before .before .before .before .before .before .before .before .before .before .before .before .before .before .write-contents .ensures) in
+    (few-ranks h, p .1 .1, high h _ (minutes-long (p .0 .R) _ (p .0 .minutes-are)))
 
 same-length-7 : tie.Need-same-length-7
 same-length-7 c = search needs
@@ -107,9 +92,9 @@ same-length-10 c = search needs
 
 returns-4 : tie.Need-returns-4
 returns-4 c =
-    let p = c .before .before .before .before .before .before .before .before .before .before .before .before .before .before .before .before .before .before .before .before .before .before .before .before .before .before .before .before .before .before .before .before .before .before .pre in
-    let e = c .before .before .before .before .before .before .before .before .before .before .before .before .before .before .before .before .before .before .before .before .before .before .before .before .before .before .before .before .write-contents .ensures in
-    λ R bs before w k m. finished-all R _ bs before _ _ w _ e _ _ _ _ _ (c .before .before .before .before .before .before .before .before .before .before .before .before .before .before .before .before .before .before .before .before .before .before .before .before .is-closed .ensures) (c .before .before .before .before .before .before .before .before .before .before .before .before .before .before .before .before .before .before .before .before .before .before .before .if1 .left) _ (c .before .before .before .before .before .before .before .before .before .before .before .before .before .before .before .before .before .before .before .before .is-shared .ensures R bs (held w _ e) k) (c .before .before .before .before .before .before .before .before .before .before .before .before .before .before .before .before .before .if2 .left) _ _ (zeros-length (c .before .before .before .before .before .before .before .before .before .before .before .before .before .before .before .clear .last .0) (length (c .before .before .before .before .before .before .before .before .before .before .before .before .before .before .before .before .before .before .before .before .before .before .before .before .before .before .before .before .before .before .before .before .before .before .args .reached .now)) (c .before .before .before .before .before .before .before .before .before .before .before .before .before .before .before .clear .ensures) ∙ p .1 .0 ∙ k .row-long) (c .before .before .before .before .before .before .before .before .before .before .mark-rows .ensures) _ (c .before .before .before .before .before .before .count-clear .ensures) _ (c .before .before .before .before .before .is-left .ensures) (c .before .before .before .before .if3 .left) _ m (c .before .fill-totals .ensures) refl refl
+    let p = c .before .before .before .before .before .before .before .before .before .before .before .before .before .before .before .before .before .before .before .before .before .before .before .before .before .before .before .before .pre in
+    let e = c .before .before .before .before .before .before .before .before .before .before .before .before .before .before .before .before .before .before .before .before .before .before .write-contents .ensures in
+    λ R bs before w l k m. finished-all R _ bs before _ _ w l _ e _ _ _ _ _ (c .before .before .before .before .before .before .before .before .before .before .before .before .before .before .before .before .before .before .is-closed .ensures) (c .before .before .before .before .before .before .before .before .before .before .before .before .before .before .before .before .before .if1 .left) _ (c .before .before .before .before .before .before .before .before .before .before .before .before .before .before .is-shared .ensures R bs (held w _ e) k) (c .before .before .before .before .before .before .before .before .before .before .before .if2 .left) _ (p .1 .0 ∙ k .row-long) _ (c .before .before .before .before .before .before .before .before .count-left .ensures) _ (c .before .before .before .before .before .is-left .ensures) (c .before .before .before .before .if3 .left) _ m (c .before .fill-totals .ensures) refl refl
 
 pub finish-spec : {M : Type 1} → statement M
 finish-spec =
@@ -126,10 +111,7 @@ finish-spec =
     same-length-2
     same-length-3
     returns-2
-    clear-requires
-    mark-rows-requires
-    count-clear-requires
-    cast-left
+    count-left-requires
     is-left-requires
     refused-requires-3
     same-length-4

@@ -1,4 +1,4 @@
-use Rattle.refusals.specs.TestsLaws.{NoStartTo, lacks-not-adopt, no-start-none, lacks-not-bare, no-start-found, no-start-next, lacks-found}
+use Rattle.refusals.specs.TestsLaws.{NoStartTo, lacks-not-adopt, no-start-none, lacks-not-bare, no-start-next, lacks-found}
 use borrow.Author.Needs.{needs}
 use native.Mathlib.Omega.{arith}
 use Prim.Native.Nat.{_≤_, _-_}
@@ -6,10 +6,10 @@ use Rattle.refusals.proofs.lacks_start.Statement.{statement}
 use Rattle.refusals.proofs.lacks_start.Tie as tie
 
 abbrev Inv-loop : tie.InvT-loop
-Inv-loop orphan table n found₀ p₀ found p = NoStartTo table p found × (p ≤ n)
+Inv-loop orphan table n p₀ p = NoStartTo table p × (p ≤ n)
 
 abbrev μ-loop : tie.MeasureT-loop
-μ-loop orphan table n found₀ p₀ found p = n - p
+μ-loop orphan table n p₀ p = n - p
 
 returns : tie.Need-returns Inv-loop μ-loop
 returns c =
@@ -33,37 +33,21 @@ returns-2 : tie.Need-returns-2 Inv-loop μ-loop
 returns-2 c =
     lacks-not-bare (c .before .before .before .before .before .before .before .args .orphan) _ (c .before .before .before .loop .inv .0) _ (omega (arith, c .before .before .loop-test .taken, c .before .before .before .before .rows .ensures 0)) (c .before .flag .ensures) (c .if2 .taken)
 
-parent-position-requires : tie.Need-parent-position-requires Inv-loop μ-loop
-parent-position-requires c κs = search needs
-
-cast-position : tie.Need-cast-position Inv-loop μ-loop
-cast-position c = search needs
-
 add-p : tie.Need-add-p Inv-loop μ-loop
 add-p c =
-    omega (arith, c .before .before .before .before .loop .inv .1, c .before .before .before .before .before .rows .ensures 0, c .before .before .before .before .before .before .before .before .pre)
+    omega (arith, c .before .before .before .loop .inv .1, c .before .before .before .before .rows .ensures 0, c .before .before .before .before .before .before .before .pre)
 
 loop-less : tie.Need-loop-less Inv-loop μ-loop
 loop-less c =
-    omega (arith, c .before .before .before .before .loop-test .taken)
+    omega (arith, c .before .before .loop-test .taken)
 
 loop-again : tie.Need-loop-again Inv-loop μ-loop
 loop-again c =
-    let e = c .before .before .before .before .before .before .rows .ensures 0 in
-    (no-start-found (c .before .before .before .before .before .before .before .before .before .args .orphan) _ (c .before .before .before .before .before .loop .inv .0) (omega (arith, c .before .before .before .before .loop-test .taken, e)) _ (c .before .before .before .flag .ensures) (c .before .before .if2 .left) _ (c .before .parent-position .ensures) (omega (arith, c .if3 .taken, e)), omega (arith, c .before .before .before .before .loop-test .taken))
-
-loop-less-2 : tie.Need-loop-less-2 Inv-loop μ-loop
-loop-less-2 c =
-    omega (arith, c .before .before .before .before .loop-test .taken)
-
-loop-again-2 : tie.Need-loop-again-2 Inv-loop μ-loop
-loop-again-2 c =
-    let e = c .before .before .before .before .before .before .rows .ensures 0 in
-    (no-start-next (c .before .before .before .before .before .before .before .before .before .args .orphan) _ (c .before .before .before .before .before .loop .inv .0) (omega (arith, c .before .before .before .before .loop-test .taken, e)) _ (c .before .before .before .flag .ensures) (c .before .before .if2 .left) _ (c .before .parent-position .ensures) (omega (arith, c .if3 .left, e)), omega (arith, c .before .before .before .before .loop-test .taken))
+    (no-start-next (c .before .before .before .before .before .before .before .args .orphan) _ (c .before .before .before .loop .inv .0) _ (omega (arith, c .before .before .loop-test .taken, c .before .before .before .before .rows .ensures 0)) (c .before .flag .ensures) (c .if2 .left), omega (arith, c .before .before .loop-test .taken))
 
 returns-3 : tie.Need-returns-3 Inv-loop μ-loop
 returns-3 c =
-    lacks-found (c .before .before .before .before .before .args .orphan) _ (c .before .loop .inv .0) (c .before .before .before .if1 .left) (omega (arith, c .loop-test .left, c .before .before .rows .ensures 0))
+    lacks-found (c .before .before .before .before .before .args .orphan) _ (c .before .loop .inv .0) _ (c .before .before .rows .ensures 0) (c .before .before .before .if1 .left) (omega (arith, c .loop-test .left, c .before .before .rows .ensures 0))
 
 pub lacks-start-spec : {M : Type 1} → statement M
 lacks-start-spec =
@@ -77,11 +61,7 @@ lacks-start-spec =
     cast-loop
     flag-requires
     returns-2
-    parent-position-requires
-    cast-position
     add-p
     loop-less
     loop-again
-    loop-less-2
-    loop-again-2
     returns-3)

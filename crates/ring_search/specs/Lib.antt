@@ -1,0 +1,4 @@
+pub mod SearchLayer
+pub mod SearchLaws
+pub mod TurnLaws
+pub mod AnswerLaws

@@ -1,0 +1,9 @@
+pub mod EnterLayer
+pub mod EnterLaws
+pub mod RingsLayer
+pub mod IslandLaws
+pub mod PassLaws
+pub mod MetLaws
+pub mod TakeLaws
+pub mod ScannedLaws
+pub mod JoinLaws
