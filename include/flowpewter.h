@@ -4,8 +4,9 @@
  * down, each under the numeral of the row before; it is a node of its last row. So a part that is shown in three places
  * is three nodes, each with all that is below it. A build writes the nodes into an index, in the order of their ranks,
  * which begin at 1: a node comes before the nodes below it, and siblings by their order, then by their numeral, then by
- * their row number, the smaller first. The other calls look into such an index by rank. docs/INDEX-FORMAT.md has an
- * example, word by word.
+ * their row number, the smaller first. Rows that no path from a start row reaches are orphans: they are left over, or
+ * have paths of their own (FLOWPEWTER_ORPHAN_ADOPT, FLOWPEWTER_ORPHAN_ROOT). The other calls look into such an index by
+ * rank. docs/INDEX-FORMAT.md has examples, word by word.
  *
  * Link with target/staticlib/libflowpewter.a, which `rt staticlib flowpewter` makes. It is compiled for x86-64 Linux
  * (System V calls, any x86-64 processor, position-independent) and for nothing else; of the C library it takes memcpy,
@@ -54,13 +55,15 @@ enum {
     FLOWPEWTER_REFUSED_NOTHING_KEPT = 5,       /* undo finds no kept step */
     FLOWPEWTER_REFUSED_UNKNOWN_CODE = 6,       /* the option code is above 23 */
     FLOWPEWTER_REFUSED_DEPTH_WITH_ORPHANS = 7, /* a depth is given and orphans aren't ignored */
-    FLOWPEWTER_REFUSED_NO_START_ROW = 8,       /* there is an orphan to adopt and no start row to adopt it */
+    FLOWPEWTER_REFUSED_NO_START_ROW = 8,       /* there is an orphan to adopt, on an island or not, and no start row to
+                                                  adopt it */
     FLOWPEWTER_REFUSED_TOO_MANY_NODES = 9,     /* over 65,535 nodes, or more than the index or the totals hold:
                                                   FLOWPEWTER_INDEX_LEN and FLOWPEWTER_TOTALS_LEN say what they need */
-    FLOWPEWTER_REFUSED_CLOSING_NODE = 10,      /* a node closes a cycle, under FLOWPEWTER_CYCLE_ERROR */
+    FLOWPEWTER_REFUSED_CLOSING_NODE = 10,      /* a node closes a cycle, under FLOWPEWTER_CYCLE_ERROR; below every
+                                                  entry one does */
     FLOWPEWTER_REFUSED_SHARED_NUMERAL = 11,    /* two nodes share a numeral, under FLOWPEWTER_MULTI_ERROR; or a node
                                                   with nodes below it shares its numeral, under
-                                                  FLOWPEWTER_MULTI_LEAVES */
+                                                  FLOWPEWTER_MULTI_LEAVES; every entry does */
     FLOWPEWTER_REFUSED_UNREACHED_ROW = 12,     /* no path from a start row ends with some row, under
                                                   FLOWPEWTER_ORPHAN_ERROR */
     FLOWPEWTER_REFUSED_NO_INDEX = 13,          /* the index has under 8 words, word 1 isn't 8, word 2 isn't 6, word 0 is
@@ -197,7 +200,7 @@ enum {
 /* The words of a body. */
 enum {
     FLOWPEWTER_BODY_NUMERAL = 0,
-    FLOWPEWTER_BODY_ROW = 1,    /* number of the row that the node's path ends with */
+    FLOWPEWTER_BODY_ROW = 1,    /* number of the row that the node's path ends with; 0 for an entry, which is no row */
     FLOWPEWTER_BODY_SIZE = 2,   /* the node and all nodes below it */
     FLOWPEWTER_BODY_PARENT = 3, /* rank of the parent, 0 for a root */
     FLOWPEWTER_BODY_ROOT = 4,   /* rank of the root above the node */
@@ -205,20 +208,31 @@ enum {
 };
 
 #define FLOWPEWTER_LEVEL_MASK UINT32_C(0xffff)
-#define FLOWPEWTER_CLOSING_BIT (UINT32_C(1) << 30) /* the path closes a cycle: its last numeral stands on it before */
-#define FLOWPEWTER_ORPHAN_BIT (UINT32_C(1) << 31)  /* the node is on an orphan's path */
+#define FLOWPEWTER_CLOSING_BIT (UINT32_C(1) << 30) /* the path closes a cycle: its last numeral stands on it before; an
+                                                      entry's counts, that of the row that adopts does not */
+#define FLOWPEWTER_ORPHAN_BIT (UINT32_C(1) << 31)  /* the node is on an orphan's path, or on one that begins with an
+                                                      entry */
 
 /* Words of an index of so many nodes, the number of its totals, and where the body of a rank begins. */
 #define FLOWPEWTER_INDEX_LEN(nodes) (FLOWPEWTER_CONTENTS + FLOWPEWTER_BODY * (size_t)(nodes))
 #define FLOWPEWTER_TOTALS_LEN(nodes) ((size_t)(nodes) + 1)
 #define FLOWPEWTER_BODY_AT(rank) (FLOWPEWTER_CONTENTS + FLOWPEWTER_BODY * ((size_t)(rank) - 1))
 
-/* What becomes of orphans, rows that no path from a start row reaches. */
+/* What becomes of orphans, rows that no path from a start row reaches.
+ *
+ * Under adopt and root every row ends a node. First come the orphans without a parent among the rows, each with all
+ * that is below it. The orphans that are left then are islands: rings of rows with no way in, and what hangs from them.
+ * They join the tree by entries. An entry is a node without a row: its row number is 0, and it has 0 minutes. Its
+ * numeral is that of the row with the lowest number, of the rows left, whose numeral lies on a ring of rows left. All
+ * that is below that numeral by rows left is below the entry; a row there that has the numeral too closes a cycle. The
+ * next entry follows in the same way, until no row is left. */
 enum {
     FLOWPEWTER_ORPHAN_IGNORE = 0, /* they are left over */
     FLOWPEWTER_ORPHAN_ERROR = 1,  /* the build is refused */
-    FLOWPEWTER_ORPHAN_ADOPT = 2,  /* those without a parent among the rows hang from the last start row */
-    FLOWPEWTER_ORPHAN_ROOT = 3    /* those without a parent among the rows are roots after all others */
+    FLOWPEWTER_ORPHAN_ADOPT = 2,  /* those without a parent among the rows hang from the last start row, behind all that
+                                     is below it; entries hang there behind them, in the order made */
+    FLOWPEWTER_ORPHAN_ROOT = 3    /* those without a parent among the rows are roots after all others; entries are roots
+                                     after them, in the order made */
 };
 
 /* Whether nodes may share a numeral. */
@@ -240,11 +254,11 @@ enum {
 typedef struct flowpewter_built {
     uint32_t refusal;
     uint32_t nodes;
-    uint32_t left; /* rows that end no node */
+    uint32_t left; /* rows that end no node; 0 where orphans aren't ignored */
 } flowpewter_built;
 
 /* Builds the index of the board's paths, and the running totals of their minutes: 0, then the minutes added node by
- * node. Words and totals beyond stay.
+ * node, those of its row or 0 for an entry. Words and totals beyond stay.
  *
  * With has_depth, a path has at most depth + 1 rows, and none if depth is negative; else depth is ignored. With
  * by_list, paths start from rows whose numeral is in the list; else from rows with parent 0, and the list is ignored.
