@@ -139,11 +139,15 @@ pub fn codes(random: &mut Random, tally: &mut Tally) {
     let reference = holding(random, &rows);
     let list = Some(vec![random.pick(&rows).numeral, random.pick(&rows).numeral]);
     for start in [None, list] {
-        for code in (0..27).chain([u32::MAX]) {
-            let index = random.noise(8 + 6 * 2_000);
-            let totals = random.wide_noise(2_001);
-            let (rows, start) = (rows.clone(), start.clone());
-            let case = BuildCase { rows, code, depth: None, start, index, totals };
+        let (rows, index, totals) = (rows.clone(), Vec::new(), Vec::new());
+        let mut case = BuildCase { rows, code: 0, depth: None, start, index, totals };
+        for code in (0..48).chain((6..32).map(|bit| 1 << bit)).chain([u32::MAX]) {
+            case.code = code;
+            // Codes from 28 on are all refused, and find the slices that 27 found.
+            if code < 28 {
+                case.index = random.noise(8 + 6 * 2_000);
+                case.totals = random.wide_noise(2_001);
+            }
             let (built, _) = compare(&reference, &case, tally);
             if built.refusal == 0 {
                 tally.reach(CODES[code as usize]);

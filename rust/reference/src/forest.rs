@@ -14,7 +14,7 @@ pub enum Start<'a> {
     Numerals(&'a [u32]),
 }
 
-/// An option code read apart: code = orphan + 4 × multi + 12 × cycle.
+/// The three choices of an option code.
 #[derive(Clone, Copy, Debug, PartialEq, Eq)]
 pub struct Options {
     /// 0 ignore, 1 error, 2 adopt, 3 root.
@@ -31,12 +31,22 @@ pub const ADOPT: u32 = 2;
 pub const ROOT: u32 = 3;
 
 impl Options {
-    /// Reads a code; none above 23.
+    /// All choices: four of orphan, three of multi, two of cycle.
+    fn all() -> impl Iterator<Item = Options> {
+        (0..=3).flat_map(|orphan| {
+            (0..=2)
+                .flat_map(move |multi| (0..=1).map(move |cycle| Options { orphan, multi, cycle }))
+        })
+    }
+
+    /// "Option code = orphan + 4 × multi + 12 × cycle."
+    fn code(self) -> u32 {
+        self.orphan + 4 * self.multi + 12 * self.cycle
+    }
+
+    /// The choices that have the code, found by trying all; none above 23.
     pub fn read(code: u32) -> Option<Options> {
-        if code > 23 {
-            return None;
-        }
-        Some(Options { orphan: code % 4, multi: code / 4 % 3, cycle: code / 12 })
+        Options::all().find(|options| options.code() == code)
     }
 }
 

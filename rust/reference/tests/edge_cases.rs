@@ -49,8 +49,30 @@ fn options_follow_the_formula() {
             }
         }
     }
-    assert_eq!(Options::read(24), None);
-    assert_eq!(Options::read(u32::MAX), None);
+}
+
+#[test]
+fn codes_0_to_23_are_read_and_no_others() {
+    for code in 0..24 {
+        let Options { orphan, multi, cycle } = Options::read(code).unwrap();
+        assert!(orphan <= 3 && multi <= 2 && cycle <= 1, "{code}");
+        assert_eq!(orphan + 4 * multi + 12 * cycle, code);
+    }
+    // Root, error, error.
+    assert_eq!(Options::read(23), Some(Options { orphan: 3, multi: 2, cycle: 1 }));
+
+    for code in 24..100_000 {
+        assert_eq!(Options::read(code), None, "{code}");
+    }
+    // A code that is one of the 24 but for a higher bit.
+    for bit in 5..32 {
+        for low in 0..24 {
+            assert_eq!(Options::read((1 << bit) + low), None, "{low} and bit {bit}");
+        }
+    }
+    for code in u32::MAX - 23..=u32::MAX {
+        assert_eq!(Options::read(code), None, "{code}");
+    }
 }
 
 #[test]
