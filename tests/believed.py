@@ -21,6 +21,7 @@ ENTRIES = "board history build navigate sums index_check guarantee flowpewter li
 # The theorems whose statements are followed.
 THEOREMS = {
     "guarantee": "guarantee sound-build unsound-build marked-cases built-accepted built-distances built-links",
+    "options": "taken-apart composed",
     "islands": "entries-entered entered-unique",
     "nodes": "joining-unique nodes-unique entry-closes entry-shares accepted-leaves-none",
     "machine": "simulation final-state earlier-and-later undo-redo redo-undo board-undo-redo board-redo-undo",

@@ -43,6 +43,15 @@ compile stack tests/stack.c
 compile empty_slices tests/empty_slices.c
 "$out/empty_slices"
 
+# The library is read-only memory of the drawing tablet: its constants stay below the 288 bytes of the table that request 2.4 took out.
+size -A "$library" | awk '
+    $1 ~ /^[.]text/ { code += $2 }
+    $1 ~ /^[.]rodata/ { constants += $2 }
+    END {
+        print "size: " code " bytes of code, " constants " bytes of read-only data"
+        exit !(code > 0 && constants < 288)
+    }'
+
 sh tests/unproved.sh
 target/unproved/numerals <examples/pump.txt >"$out/pump.unproved.out"
 same "the listing program without a proof and its listing" "$out/pump.unproved.out" examples/pump.out

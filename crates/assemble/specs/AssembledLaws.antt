@@ -17,8 +17,7 @@ use Rattle.image.specs.declared.Body.{Body}
 use Rattle.image.specs.Layout.{imageWords}
 use Rattle.options.specs.declared.Depth.{Depth}
 use Rattle.options.specs.declared.Depth.the-variants.{None}
-use Rattle.options.specs.ChoiceLayer.{choiceOf}
-use Rattle.options.specs.Options.{orphanOf, multiOf, cycleOf}
+use Rattle.options.specs.Options.{orphanOf, multiOf, cycleOf, choiceOf}
 use Rattle.paths.specs.Forest.{memb}
 use Rattle.paths.specs.Paths.{last, Orphan, error}
 use Rattle.paths.specs.Nodes.{sorted, starts, regular, orphanRows, tops}

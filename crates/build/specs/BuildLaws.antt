@@ -17,7 +17,6 @@ use Rattle.board.specs.Laws.{sound-numeral}
 use Rattle.image.specs.Layout.{imageWords}
 use Rattle.options.specs.declared.Depth.{Depth}
 use Rattle.options.specs.declared.Choice.{Choice}
-use Rattle.options.specs.ChoiceLayer.{choiceOf}
 use Rattle.options.specs.Options.{orphanOf}
 use Rattle.nodes.specs.Nodes.{withEntries, nodes}
 use Rattle.nodes.specs.Bodies.{bodies, runningTotals}
@@ -37,9 +36,6 @@ by-six R code depth start words totals e = simp e
 pub by-seven : (R : List Row) (code : ℕ) (depth : Depth) (start : Row → Bool) (words totals : ℕ) → refusal6 code ≡ false → refusal7 (orphanOf code) depth ≡ true → refusalOf R code depth start words totals ≡ 7
 unfolding refusalOf
 by-seven R code depth start words totals six e = simp (six, e)
-
-pub orphan-few : (code : ℕ) (choice : Choice) → choice ≡ choiceOf code → choice .orphan ≤ 3
-orphan-few code choice e = omega (arith, ap (λ (c : Choice). c .orphan) e)
 
 -- ---- a board that is sound or not
 

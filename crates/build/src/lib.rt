@@ -26,7 +26,7 @@ fn attempt(
     if 23 < code {
         return request::refused(6);
     }
-    let choice = options::choices(code as usize);
+    let choice = options::choices(code);
     if refusals::is_depth_refused(choice.orphan, depth) {
         return request::refused(7);
     }

@@ -7,7 +7,7 @@ use Rattle.rows.specs.declared.Row.{Row}
 use Rattle.image.specs.declared.Body.{Body}
 use Rattle.image.specs.Sample.{printed}
 use Rattle.options.specs.declared.Depth.the-variants.{None, Limit}
-use Rattle.options.specs.Options.{levelLimit}
+use Rattle.options.specs.Options.{orphanOf, levelLimit}
 use Rattle.lists.specs.Lists.{sort, insert}
 use Rattle.forest.specs.Nodes.{sumBelow}
 use Rattle.paths.specs.Forest.{forest}
@@ -19,7 +19,7 @@ use Rattle.islands.specs.Entries.{belowEntry, ringed, ringedRows, unreachedOf, 
 use Rattle.islands.specs.IslandCases.{gears}
 use Rattle.nodes.specs.Nodes.{entriesOf, withEntries, entryNodes, nodes}
 use Rattle.nodes.specs.Bodies.{minutesOf, runningTotals, bodies, leftRows, leftOf}
-use Rattle.nodes.specs.Refusals.{refusal8}
+use Rattle.nodes.specs.Refusals.{orphanChoice, refusal8, refusalOf}
 
 -- the closing bits, rank by rank
 abbrev pub closings : List Row → Orphan → List Bool
@@ -86,3 +86,15 @@ pub record EntryCases : Type 0 where
 pub entry-cases : EntryCases
 unfolding sorted starts regular orphanRows tops orphans orphanNodes rowNodes levelLimit forest sort insert belowEntry ringed ringedRows unreachedOf entriesFrom entryPathsFrom islands entries entryPaths entryNodes nodes entriesOf withEntries bodies
 entry-cases = record { order-made = refl; entries-last = refl; entry-closes = refl; island-refused = refl }
+
+-- request 2.4: "Code 23 still reads root, error, error under its digits."
+pub record LastCodeCases : Type 0 where
+  pub orphans-are-roots : orphanChoice (orphanOf 23) ≡ root
+  pub orphan-taken : refusalOf (line 90 91 1 (pos 0) ∷ []) 23 None parentZero 14 2 ≡ 0
+  pub shared-leaf-refused : refusalOf (line 0 10 1 (pos 0) ∷ line 0 10 2 (pos 0) ∷ []) 23 None parentZero 20 3 ≡ 11
+  pub cycle-refused : refusalOf (line 0 10 1 (pos 0) ∷ line 10 10 1 (pos 0) ∷ []) 23 None parentZero 20 3 ≡ 10
+  pub next-refused : refusalOf [] 24 None parentZero 8 1 ≡ 6
+
+pub last-code-cases : LastCodeCases
+unfolding sorted starts regular orphanRows tops orphans orphanNodes rowNodes levelLimit forest sort insert belowEntry ringed ringedRows unreachedOf entriesFrom entryPathsFrom islands entries entryPaths entryNodes nodes entriesOf withEntries bodies refusalOf
+last-code-cases = record { orphans-are-roots = refl; orphan-taken = refl; shared-leaf-refused = refl; cycle-refused = refl; next-refused = refl }
