@@ -42,12 +42,12 @@ use Rattle.islands.specs.EntryLayer.{entryWalks}
 use Rattle.passes.specs.PassesLayer.{rowsTo}
 use Rattle.passes.specs.PassesLaws.{rows-from-first, rows-written}
 use Rattle.walk.specs.WalkLayer.{Rows, rowsOf, rowOf, Clear, Walked, flagged}
-use Rattle.walk.specs.WalkLaws.{emit-append, walked-join, clear-marked}
+use Rattle.walk.specs.WalkLaws.{emit-append, walked-join, walked-longer, clear-marked}
 use Rattle.walk.specs.declared.Progress.{Progress}
 use Rattle.rings.specs.RingsLayer.{RowsKept}
 use Rattle.enumerate.specs.declared.StartProgress.{StartProgress}
 use Rattle.enumerate.specs.EnumerateLayer.{ClearWorkspace, Starting, StartsWalked, outside, topsAmong, orphanLevel, orphansFrom, outsideFrom, RegularWritten, Adopted}
-use Rattle.enumerate.specs.WalkJoinLaws.{flagged-split, walked-longer, written-sized, size-written, check-raised}
+use Rattle.enumerate.specs.WalkJoinLaws.{flagged-split, written-sized, size-written, check-raised}
 use Rattle.enumerate.specs.OrphanLaws.{row-count, prepared-listed, level-adopted}
 
 -- ---- the last flag

@@ -34,10 +34,9 @@ use Rattle.table.specs.TableLayer.{rowColumn, parentPositionColumn, flagColumn}
 use Rattle.orphans.specs.OutsideLayer.{outsideAt, topAt, topFlags, OutsideLinked}
 use Rattle.rings.specs.RingsLayer.{RowsKept, Joinable}
 use Rattle.walk.specs.WalkLayer.{rowsOf, Walkable, Walked}
-use Rattle.walk.specs.WalkLaws.{walked-join}
+use Rattle.walk.specs.WalkLaws.{walked-join, walked-longer}
 use Rattle.walk.specs.declared.Progress.{Progress}
 use Rattle.enumerate.specs.EnumerateLayer.{ClearWorkspace, orphanLevel, orphansFrom, TopsWalked, outsideFrom, RegularWritten}
-use Rattle.enumerate.specs.WalkJoinLaws.{walked-longer}
 use Rattle.enumerate.specs.OrphanLaws.{row-count, none-outside, no-orphans, outside-kept, outside-walkable, outside-listed, orphans-walked}
 
 module _ (R : List Row) (start : Row → Bool) where

@@ -16,6 +16,7 @@ use Rattle.image.specs.ImageLaws.{length-flat}
 use Rattle.paths.specs.EmitLayer.{orElse, emit}
 use Rattle.paths.specs.EmitLaws.{emit-cons, emit-nil}
 use Rattle.table.specs.TableLayer.{flagColumn, Stored}
+use Rattle.walk.specs.WalkLaws.{walked-longer}
 use Rattle.walk.specs.WalkLayer.{Rows, rowOf, Walked, NodesWalked, nodeBody, flagged}
 use Rattle.walk.specs.declared.Progress.{Progress}
 use Rattle.rings.specs.EnterLayer.{Unnamed, unnamed, belowAt, EntryWalked}
@@ -87,14 +88,6 @@ one-flag flags p e =
     let d : p + 1 - p ≡ 1 = omega arith in
     ap (λ (k : ℕ). filter (λ q. eqb (getD flags q 0) 1) (numbers p k)) d ∙ ap (λ (b : Bool). keep b p []) (eq-eqb (getD flags p 0) 1 e)
 
--- more nodes than fit
-over-any : (L M : List Body) (n cap check : ℕ) (on on₁ ix ix₁ : List ℕ) (r : Progress) → Walked L n cap check on on₁ ix ix₁ r → cap < r .count → length L ≡ length M → Walked M n cap check on on₁ ix ix₁ r
-over-any L M n cap check on on₁ ix ix₁ r w over e =
-    record { count = omega (arith, w .count); marks = λ h. absurd (no h over); written = λ h. absurd (no h over); check = λ h. absurd (no h over) }
-  where
-    no : {a b : ℕ} → a ≤ b → b < a → ⊥
-    no p q = omega arith
-
 module _ (W : Rows) (orphan : Bool) (limit level parent root p n cap check : ℕ) where
   -- the body of the row at p, and those below it
   abbrev below : (num par : ℕ → ℕ) (pool : List ℕ) (f : ℕ) → List Body
@@ -132,7 +125,7 @@ module _ (W : Rows) (orphan : Bool) (limit level parent root p n cap check : ℕ
       → NodesWalked W orphan limit level parent root (flagged flags p (p + 1)) n cap check on on′ ix ix₁ m → EntryWalked W orphan limit level parent root p n cap check on on′ ix ix₁ m
   unfolding NodesWalked EntryWalked
   entered-over flags on on′ ix ix₁ m one over w = λ num par pool f listed marked lim.
-      over-any (whole num par pool f ∷ below num par pool f) (unnamed (whole num par pool f) ∷ below num par pool f) n cap check on on′ ix ix₁ m (row-walked flags on on′ ix ix₁ m num par pool f one lim (w num par pool [] listed marked)) over refl
+      walked-longer (whole num par pool f ∷ below num par pool f) (unnamed (whole num par pool f) ∷ below num par pool f) n cap check on on′ ix ix₁ ix₁ m (row-walked flags on on′ ix ix₁ m num par pool f one lim (w num par pool [] listed marked)) over (omega arith)
 
   pub entered-full : (on ix : List ℕ) → n ≤ cap → cap ≤ n → EntryWalked W orphan limit level parent root p n cap check on on ix ix (record { count = cap + 1; check = check })
   unfolding EntryWalked
