@@ -1,4 +1,4 @@
--- What a call does by its numbers: the entry that it carries out, and the tape after it. Assumes nothing.
+-- What a call does by its numbers: the entry that it carries out, the turns of the loops, and the tape after it. Assumes nothing.
 use mathlib.Core.Path.{_≡_, refl, sym, ap, _∙_, subst}
 use Prim.Native.Nat.{ℕ, zero, suc, _+_, _-_, _≤_, _<_}
 use native.Mathlib.Omega.{arith}
@@ -11,18 +11,18 @@ use lib.Dec.{leb, ltb, eqb}
 use borrow.Author.Tests.{le-leb, lt-ltb, le-ltb, ltb-true, ltb-false, eqb-false}
 use Rattle.lists.specs.Lists.{front}
 use Rattle.lists.specs.ChoiceLaws.{cond-none}
-use Rattle.lists.specs.MoveLaws.{movedUp, moved-up-start}
+use Rattle.lists.specs.MoveLaws.{movedUp, moved-up-start, moved-up-step, movedDown, moved-down-step}
 use Rattle.lists.specs.FrontLaws.{store-front, shift-front}
 use Rattle.rows.specs.declared.Row.{Row}
 use Rattle.rows.specs.declared.Entry.{Entry}
 use Rattle.board.specs.declared.Board.{Board}
-use Rattle.rows.specs.declared.Plan.{Plan}
+use Rattle.plans.specs.declared.Plan.{Plan}
 use Rattle.rows.specs.declared.Call.{Call}
 use Rattle.rows.specs.declared.Call.the-variants.{Add, Withdraw, Remark, Undo, Redo}
 use Rattle.rows.specs.Journal.{carried, inverse, pushed, blank, noEntry, noRow, remarked}
 use Rattle.board.specs.Edits.{rowsOf, keptOf, undoneOf, newestOf, nextOf, soundOf, addRefusal, rowRefusal, undoRefusal, redoRefusal}
-use Rattle.rows.specs.PlanLayer.{atMost256, roomAfter, movesFor, placeNamed, entryChosen, rowChosen, changePlan, planOf, judgedPlan}
-use Rattle.rows.specs.PlanLaws.{at-most-le, room-less}
+use Rattle.plans.specs.PlanLayer.{atMost256, roomAfter, movesFor, placeNamed, entryChosen, rowChosen, changePlan, planOf, judgedPlan}
+use Rattle.plans.specs.PlanLaws.{at-most-le, room-less}
 use Rattle.board.specs.Laws.{count-kept, count-undone, sound-count, sound-kept, sound-undone}
 use Rattle.board.specs.OperationLaws.{refusalBy, operation, keptAfter, undoneAfter, boardAfter, row-there}
 
@@ -259,11 +259,38 @@ planned b c s lj q y e =
     let own : d .refusal ≡ 0 = sym (ap (λ (x : Plan). x .refusal) q ∙ ap (λ (t : Bool). cond t (d .refusal) 1) y) ∙ e in
     subst (λ (x : Plan). Planned b c x) (sym q) (judged-planned b c (soundOf b) d (planned-by b c lj y own))
 
--- ---- the board that it leaves
+-- ---- the board in the loops, y after some turns and the one after the next
+
+-- b with its rows stored anew
+abbrev pub stored : Board → List Row → Board
+stored b p = record { count = b .count; rows = p; kept = b .kept; undone = b .undone; journal = b .journal }
+
+-- b with its tape stored anew
+abbrev pub taped : Board → List Entry → Board
+taped b j = record { count = b .count; rows = b .rows; kept = b .kept; undone = b .undone; journal = j }
 
 -- b once the first places of its tape have moved up
 abbrev pub shifted : Board → ℕ → Board
-shifted b m = record { count = b .count; rows = b .rows; kept = b .kept; undone = b .undone; journal = movedUp (b .journal) 0 m }
+shifted b m = taped b (movedUp (b .journal) 0 m)
+
+pub shift-turn : (b y : Board) (m : ℕ) → y ≡ shifted b m → suc m < length (b .journal) → taped y (set (y .journal) m (getD (y .journal) (m + 1) noEntry)) ≡ shifted b (m + 1)
+shift-turn b y m e h =
+    ap (λ (x : Board). taped x (set (x .journal) m (getD (x .journal) (m + 1) noEntry))) e
+    ∙ ap (λ (j : List Entry). taped b j) (moved-up-step (b .journal) 0 m noEntry (omega arith) h)
+
+pub up-turn : (b y : Board) (at j : ℕ) → y ≡ stored b (movedUp (b .rows) at j) → at ≤ j → suc j < length (b .rows)
+    → stored y (set (y .rows) j (getD (y .rows) (j + 1) blank)) ≡ stored b (movedUp (b .rows) at (j + 1))
+up-turn b y at j e g h =
+    ap (λ (x : Board). stored x (set (x .rows) j (getD (x .rows) (j + 1) blank))) e
+    ∙ ap (λ (p : List Row). stored b p) (moved-up-step (b .rows) at j blank g h)
+
+pub down-turn : (b y : Board) (k n : ℕ) → y ≡ stored b (movedDown (b .rows) k n) → 0 < k → k ≤ n → n < length (b .rows)
+    → stored y (set (y .rows) k (getD (y .rows) (k - 1) blank)) ≡ stored b (movedDown (b .rows) (k - 1) n)
+down-turn b y k n e z g h =
+    ap (λ (x : Board). stored x (set (x .rows) k (getD (x .rows) (k - 1) blank))) e
+    ∙ ap (λ (p : List Row). stored b p) (moved-down-step (b .rows) k n blank z g h)
+
+-- ---- the board that it leaves
 
 pub finished : (b x : Board) (c : Call) (s : Plan) → Planned b c s → x ≡ shifted b (s .moves) → (n : ℕ) (f : List Row → List Row) (e : Entry)
     → n ≡ length (carried (operation b c) (rowsOf b)) → f (b .rows) ≡ front (carried (operation b c) (rowsOf b)) (b .rows) → e ≡ inverse (operation b c) (rowsOf b)

@@ -1,6 +1,6 @@
 -- Every accepted call carries out one entry and leaves its inverse on the tape: the laws by which its board is known. Assumes nothing.
 use mathlib.Core.Path.{_≡_, sym, ap, _∙_}
-use Prim.Native.Nat.{ℕ, suc, _+_, _-_, _≤_, _<_}
+use Prim.Native.Nat.{ℕ, suc, _-_, _≤_, _<_}
 use native.Mathlib.Omega.{arith}
 use mathlib.Core.Bool.{true, false, cond, not}
 use mathlib.Core.List.{List, [], _∷_, _++_}
@@ -18,7 +18,7 @@ use Rattle.rows.specs.declared.Call.{Call}
 use Rattle.rows.specs.declared.Call.the-variants.{Add, Withdraw, Remark, Undo, Redo}
 use Rattle.rows.specs.Journal.{allNumbered, carried, inverse, doable, pushed, blank, noRow, remarked}
 use Rattle.board.specs.Edits.{rowsOf, keptOf, undoneOf, newestOf, nextOf, rowAt, made, soundOf, refused, accepted, addRefusal, addOf, rowRefusal, withdrawOf, remarkOf, undoRefusal, undoOf, redoRefusal, redoOf, edit}
-use Rattle.rows.specs.PlanLayer.{canDo}
+use Rattle.rows.specs.SoundLayer.{canDo}
 use Rattle.rows.specs.EntryLaws.{numbered-mid, do-test}
 use Rattle.board.specs.Laws.{count-rows, old-row, sound-count, sound-rows, sound-newest, sound-next}
 

@@ -2,7 +2,7 @@
 use mathlib.Core.Path.{_≡_, sym, ap, _∙_, subst}
 use mathlib.Core.Bool.{Bool, true, false, cond}
 use mathlib.Core.List.{List}
-use Prim.Native.Nat.{ℕ, zero, suc, _≤_}
+use Prim.Native.Nat.{ℕ, zero, suc}
 use native.Mathlib.Omega.{arith}
 use borrow.Author.Tests.{eq-eqb, ne-eqb}
 use lib.IntN.{ℤ, pos}
@@ -16,7 +16,6 @@ use Rattle.board.specs.Edits.{rowsOf, soundOf}
 use Rattle.board.specs.Laws.{sound-numeral}
 use Rattle.image.specs.Layout.{imageWords}
 use Rattle.options.specs.declared.Depth.{Depth}
-use Rattle.options.specs.declared.Choice.{Choice}
 use Rattle.options.specs.Options.{orphanOf}
 use Rattle.nodes.specs.Nodes.{withEntries, nodes}
 use Rattle.nodes.specs.Bodies.{bodies, runningTotals}

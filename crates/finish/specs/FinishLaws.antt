@@ -14,9 +14,9 @@ use lib.Seq.{sets, length-sets}
 use Rattle.rows.specs.Journal.{blank}
 use Rattle.lists.specs.Choice.{bit}
 use Rattle.lists.specs.Lists.{_∈_, filter, numbers, any, Increasing, totalsFrom, front}
-use Rattle.lists.specs.MemberLaws.{any-in, any-out, eq→eqb, count-map, filter-agree, filter-short, same-test, getD-in, place-of, increasing-at, map-map, map-agree, totals-map}
+use Rattle.lists.specs.MemberLaws.{any-in, any-out, eq→eqb, count-map, filter-agree, same-test, getD-in, place-of, increasing-at, map-map, map-agree, totals-map}
 use Rattle.lists.specs.StoreLaws.{getD-mapped}
-use Rattle.lists.specs.CountingLaws.{by-place, by-place-length, map-ranks, any-ranks}
+use Rattle.lists.specs.CountingLaws.{by-place, map-ranks, any-ranks}
 use Rattle.rows.specs.declared.Row.{Row}
 use Rattle.image.specs.declared.Body.{Body}
 use Rattle.image.specs.Layout.{rowAt, closingAt, bodyOf, flat, checked, contentsWords, imageWords}

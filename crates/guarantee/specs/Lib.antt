@@ -5,7 +5,5 @@ pub mod SentenceLaws
 pub mod MinutesLaws
 pub mod GuaranteeLaws
 pub mod BuiltIndexLaws
-pub mod Running
-pub mod RunningLaws
 pub mod Marked
 pub mod MarkedLaws

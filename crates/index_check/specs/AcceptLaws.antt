@@ -11,7 +11,8 @@ use lib.ListN.{length, getD, take, drop}
 use lib.Seq.{take-append-seam}
 use borrow.Author.Tests.{eq-eqb, ne-eqb, le-leb}
 use Rattle.lists.specs.RangeLaws.{all-of, largest-here, largest-below}
-use Rattle.image.specs.Layout.{nodeCount, sizeAt, parentAt, rootAt, wordAt, levelAt, packed, flat, checked, contentsWords, imageWords, bodyOf, badContents}
+use Rattle.packed.specs.LastWordLaws.{zeros-packed}
+use Rattle.image.specs.Layout.{nodeCount, sizeAt, parentAt, rootAt, wordAt, levelAt, flat, checked, contentsWords, imageWords, bodyOf, badContents}
 use Rattle.image.specs.ImageLaws.{node-count-read, contents-read, contents-hold, word-packed, length-flat}
 use Rattle.image.specs.ImageLayer.{HoldsImage}
 use Rattle.image.specs.declared.Body.{Body}
@@ -94,12 +95,6 @@ is-accepted s a b d h = simp (a, b, d) (all-of (rankRight s) (nodeCount s) (λ k
 
 -- ---- an image that was written
 
-packed-bits : (l : ℕ) (c o : Bool) → packed l c o / 2 ^ 16 % 2 ^ 14 ≡ 0
-packed-bits l true true = omega arith
-packed-bits l true false = omega arith
-packed-bits l false true = omega arith
-packed-bits l false false = omega arith
-
 module _ {s : List ℕ} {bs : List Body} (h : HoldsImage s bs) where
   image-zeros : zerosRight s ≡ true
   unfolding zerosRight contentsWords
@@ -122,7 +117,7 @@ module _ {s : List ℕ} {bs : List Body} (h : HoldsImage s bs) where
   image-bits k l u =
       let d : Body = bodyOf s k in
       let b : Body = getD bs (k - 1) d in
-      eq-eqb (wordAt s k / 2 ^ 16 % 2 ^ 14) 0 (ap (λ (w : ℕ). w / 2 ^ 16 % 2 ^ 14) (word-packed h k d l u) ∙ packed-bits (b .level) (b .closing) (b .orphan))
+      eq-eqb (wordAt s k / 2 ^ 16 % 2 ^ 14) 0 (ap (λ (w : ℕ). w / 2 ^ 16 % 2 ^ 14) (word-packed h k d l u) ∙ zeros-packed (b .level) (b .closing) (b .orphan))
 
   -- an image of at most 65,535 nodes is accepted where each rank's size is 1 or more and the rank is a root or a child
   pub image-accepted : length bs ≤ 65535 → ((k : ℕ) → 1 ≤ k → k ≤ length bs → (1 ≤ sizeAt s k) × (RootRank s k ⊎ ChildRank s k)) → accepts s ≡ true

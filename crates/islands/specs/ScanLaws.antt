@@ -2,7 +2,7 @@
 use mathlib.Core.Path.{_≡_, refl, sym, ap, subst, _∙_}
 use mathlib.Core.Logic.{_⊎_, inl, inr, ⊎-elim, _≢_}
 use mathlib.Core.Bool.{Bool, true, false, cond, not, _&&_, and-comm}
-use mathlib.Core.List.{List, [], _∷_, _++_, map, append-nil}
+use mathlib.Core.List.{List, [], _∷_, _++_, map}
 use Prim.Native.Nat.{ℕ, zero, suc, _+_, _-_, _≤_, _<_}
 use native.Mathlib.Omega.{arith}
 use lib.Dec.{T, T-not, not-T, eqb, eqb→eq}
@@ -13,15 +13,14 @@ use Rattle.options.specs.declared.Depth.the-variants.{None}
 use Rattle.lists.specs.Lists.{_∈_, filter}
 use Rattle.lists.specs.MemberLaws.{and-out, filter-both, filter-agree, filter-out, filter-none, filter-all, any-out, getD-in, map-in, map-out}
 use Rattle.paths.specs.Forest.{memb, node, children, next, forest}
-use Rattle.paths.specs.EmitLayer.{orElse, emit, mkBody}
+use Rattle.paths.specs.EmitLayer.{orElse, mkBody}
 use Rattle.paths.specs.Rows.{num, par}
 use Rattle.paths.specs.Paths.{last}
 use Rattle.paths.specs.Nodes.{orphanRows, tops, orphans}
 use Rattle.paths.specs.ForestLaws.{memb-in, memb-out, Path, path-one, next-in, next-out, sound, bounded, path-cons, reached}
 use Rattle.paths.specs.PathLaws.{unreached-is, tops-is}
-use Rattle.paths.specs.EmitLaws.{emit-cons, emit-nil, emit-length, emit-rows}
-use Rattle.islands.specs.Islands.{Way}
-use Rattle.islands.specs.RingLaws.{Held, RingedRow, closed-ring, way-other, below-on, ends-first, ends-on}
+use Rattle.paths.specs.EmitLaws.{emit-length, emit-rows}
+use Rattle.islands.specs.RingLaws.{RingedRow, closed-ring, way-other, below-on, ends-first, ends-on}
 use Rattle.islands.specs.Entries.{belowEntry, ringed, unreachedOf, entryPathsFrom, islands, entries}
 use Rattle.islands.specs.EntryLayer.{belowWalk, entryWalk, entryWalks, scan}
 use Rattle.islands.specs.EntryLaws.{tops-short, below-is, ringed-is, Reached, unreached-of, Good, good-step, Runs, entries-unique, islands-good}

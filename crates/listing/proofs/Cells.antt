@@ -4,7 +4,8 @@ use mathlib.Core.Path.{_≡_}
 use mathlib.Core.Bool.{Bool}
 use mathlib.Core.List.{List}
 use lib.IntN.{ℤ}
-use Rattle.image.specs.Layout.{numeralAt, sizeAt, parentAt, rootAt, wordAt, levelOf, closingBit, orphanBit}
+use Rattle.packed.specs.LastWord.{levelOf, closingBit, orphanBit}
+use Rattle.image.specs.Layout.{numeralAt, sizeAt, parentAt, rootAt, wordAt}
 use Rattle.sums.specs.Sums.{subtreeAnswer}
 use Rattle.sums.specs.declared.Summed.{Summed}
 use Rattle.listing.specs.Nodes.{columnsOf}

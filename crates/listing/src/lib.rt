@@ -132,10 +132,10 @@ pub fn columns(index: &[u32], totals: &[i64], rank: u32) -> Columns
     let word = image::word_at(index, at);
     let size = image::size_at(index, at);
     let parent = image::parent_at(index, at);
-    let level = image::level_of(word);
+    let level = packed::level_of(word);
     let root = image::root_at(index, at);
-    let closing = image::closing_of(word);
-    let orphan = image::orphan_of(word);
+    let closing = packed::closing_of(word);
+    let orphan = packed::orphan_of(word);
     let numeral = image::numeral_at(index, at);
     let summed = sums::subtree_sum(index, totals, rank);
     Columns {

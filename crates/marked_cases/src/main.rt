@@ -131,7 +131,7 @@ fn adopted() {
     say(b", rank 9 parent");
     number(index[59]);
     say(b" level");
-    number(image::level_of(index[61]));
+    number(packed::level_of(index[61]));
     say(b", rank 1 size");
     number(index[10]);
     say(b"\n");

@@ -109,7 +109,7 @@ fn keeps(index: &[u32], k: usize, keep: Keep) -> bool
 {
     match keep {
         Keep::Within(base, lo, hi) => {
-            is_within(image::level_of(image::word_of(index, k)), base, lo, hi)
+            is_within(packed::level_of(image::word_of(index, k)), base, lo, hi)
         }
         Keep::Under(parent) => image::body_of(index, k).parent == parent,
     }

@@ -11,7 +11,8 @@ use lib.Seq.{sets, getD-set-same}
 use Rattle.lists.specs.Lists.{filter, keep, numbers}
 use Rattle.lists.specs.StoreLaws.{set-inside, getD-inside}
 use Rattle.image.specs.declared.Body.{Body}
-use Rattle.image.specs.Layout.{bodyWords, flat, checked, packed}
+use Rattle.packed.specs.LastWord.{packed}
+use Rattle.image.specs.Layout.{bodyWords, flat, checked}
 use Rattle.image.specs.ImageLaws.{length-flat}
 use Rattle.paths.specs.EmitLayer.{orElse, emit}
 use Rattle.paths.specs.EmitLaws.{emit-cons, emit-nil}

@@ -16,7 +16,7 @@ use Rattle.lists.specs.MoveLaws.{length-inserted}
 use Rattle.rows.specs.declared.Row.{Row}
 use Rattle.rows.specs.declared.Entry.{Entry}
 use Rattle.rows.specs.Journal.{allNumbered, isThere, carried, doable}
-use Rattle.rows.specs.PlanLayer.{canDo}
+use Rattle.rows.specs.SoundLayer.{canDo}
 
 -- ---- rows with numerals of 1 or more
 

@@ -1,5 +1,4 @@
 pub mod Journal
-pub mod PlanLayer
-pub mod PlanLaws
+pub mod SoundLayer
 pub mod EntryLaws
 pub mod JournalCases

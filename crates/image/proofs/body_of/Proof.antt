@@ -4,9 +4,9 @@ use Rattle.image.proofs.body_of.Statement.{statement}
 use Rattle.image.proofs.body_of.Tie as tie
 use Rattle.image.proofs.body_of.Reads as reads
 use Rattle.image.proofs.body_of.Lts as lts
-use Rattle.image.proofs.closing_of.Reads as closing-of-reads
-use Rattle.image.proofs.level_of.Reads as level-of-reads
-use Rattle.image.proofs.orphan_of.Reads as orphan-of-reads
+use Rattle.packed.proofs.closing_of.Reads as closing-of-reads
+use Rattle.packed.proofs.level_of.Reads as level-of-reads
+use Rattle.packed.proofs.orphan_of.Reads as orphan-of-reads
 use Rattle.image.proofs.part_at.Reads as part-at-reads
 use Rattle.image.proofs.word_of.Reads as word-of-reads
 

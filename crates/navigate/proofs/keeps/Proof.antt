@@ -7,7 +7,8 @@ use mir.Syntax.{w32}
 use denote.Ref.{now}
 use mathlib.Core.Path.{_≡_, sym, ap, _∙_}
 use borrow.Author.Needs.{needs}
-use Rattle.image.specs.Layout.{levelOf, levelAt}
+use Rattle.packed.specs.LastWord.{levelOf}
+use Rattle.image.specs.Layout.{levelAt}
 use Rattle.image.specs.declared.Body.{Body}
 use Rattle.navigate.specs.Navigate.{within}
 use Rattle.navigate.specs.NavigateLayer.{keepsAt}
@@ -17,7 +18,7 @@ use Rattle.navigate.proofs.keeps.Tie as tie
 use Rattle.navigate.proofs.keeps.Reads as reads
 use Rattle.navigate.proofs.keeps.Lts as lts
 use Rattle.image.proofs.body_of.Reads as body-of-reads
-use Rattle.image.proofs.level_of.Reads as level-of-reads
+use Rattle.packed.proofs.level_of.Reads as level-of-reads
 use Rattle.image.proofs.word_of.Reads as word-of-reads
 use Rattle.navigate.proofs.is_within.Reads as is-within-reads
 

@@ -1,7 +1,7 @@
 -- `rows::can_do` meets its contract. Assumes nothing.
 use borrow.Author.Needs.{needs}
 use borrow.Author.Tests.{le-leb, lt-leb, eq-eqb, ne-eqb}
-use Rattle.rows.specs.PlanLayer.{canDo}
+use Rattle.rows.specs.SoundLayer.{canDo}
 use Rattle.rows.proofs.can_do.Statement.{statement}
 use Rattle.rows.proofs.can_do.Tie as tie
 

@@ -2,7 +2,7 @@
 use mathlib.Core.Path.{_∙_, sym}
 use borrow.Author.Needs.{needs}
 use borrow.Author.Tests.{le-leb, lt-leb, not-true, not-false}
-use Rattle.rows.specs.PlanLayer.{soundBy}
+use Rattle.rows.specs.SoundLayer.{soundBy}
 use Rattle.rows.proofs.sound_by.Statement.{statement}
 use Rattle.rows.proofs.sound_by.Tie as tie
 

@@ -13,27 +13,23 @@ use borrow.Author.Needs.{needs}
 use borrow.Author.Tests.{le-leb}
 use Rattle.lists.specs.Lists.{front}
 use Rattle.lists.specs.StoreLaws.{length-mapped}
-use Rattle.lists.specs.MoveLaws.{movedUp, moved-up-start, moved-up-step, movedDown, moved-down-start, moved-down-step}
+use Rattle.lists.specs.MoveLaws.{movedUp, moved-up-start, movedDown, moved-down-start}
 use Rattle.rows.specs.declared.Row.{Row}
 use Rattle.rows.specs.declared.Entry.{Entry}
 use Rattle.board.specs.declared.Board.{Board}
-use Rattle.rows.specs.declared.Plan.{Plan}
+use Rattle.plans.specs.declared.Plan.{Plan}
 use Rattle.rows.specs.declared.Call.{Call}
 use Rattle.rows.specs.Journal.{allNumbered, carried, inverse, doable, blank, noEntry}
 use Rattle.board.specs.Edits.{rowsOf, soundOf}
-use Rattle.rows.specs.PlanLayer.{entryChosen, rowChosen, planOf, judgedPlan}
+use Rattle.plans.specs.PlanLayer.{entryChosen, rowChosen, planOf, judgedPlan}
 use Rattle.board.specs.Laws.{sound-count}
 use Rattle.board.specs.OperationLaws.{refusalBy, operation, boardAfter, edit-refused, Carries, edit-carries}
 use Rattle.board.proofs.Sound.{turn, sound-test}
 use Rattle.board.proofs.Entries.{in-place, in-room, in-count, in-rows, at-place, out-count, out-rows, set-count, set-rows, turned, place-below}
-use Rattle.rows.specs.PlanLaws.{at-most-le}
-use Rattle.board.proofs.Steps.{refusal-is, Planned, planned, shifted, finished}
+use Rattle.plans.specs.PlanLaws.{at-most-le}
+use Rattle.board.proofs.Steps.{refusal-is, Planned, planned, stored, shifted, shift-turn, up-turn, down-turn, finished}
 use Rattle.board.proofs.Board.edit.Statement.{statement}
 use Rattle.board.proofs.Board.edit.Tie as tie
-
--- b with its rows stored anew
-abbrev stored : Board → List Row → Board
-stored b p = record { count = b .count; rows = p; kept = b .kept; undone = b .undone; journal = b .journal }
 
 -- the rows from place i on decide, unless one before them has
 abbrev Inv-loop : tie.InvT-loop
@@ -192,6 +188,13 @@ back-is c =
     ∙ turned b (entry k) (whole k) (small k) (can k)
     ∙ ap (λ (e : Entry). inverse e (rowsOf b)) (is k)
 
+-- the board with its new numbers and the inverse on its tape
+abbrev turned-board : Turned → Board
+turned-board c =
+    let x = next (known c) in
+    let s = step (taken (known c) .before) in
+    record { count = x .count; rows = x .rows; kept = s .kept; undone = s .undone; journal = set (x .journal) (s .place) (c .inverse-of .result) }
+
 long-rows : (c : Turned) → length (next (known c) .rows) ≡ 1024
 long-rows c = ap (λ (p : List Row). length p) (rows-same (known c .before .before .before .before)) ∙ whole (known c)
 
@@ -211,6 +214,17 @@ left c n f hn hf =
     let b = self (taken k .before) in
     finished b (next k) (call (taken k .before)) (step (taken k .before)) (plan (taken k)) (moved-board (k .before .before .before .before)) n f (c .inverse-of .result)
     (hn ∙ ap (λ (e : Entry). length (carried e (rowsOf b))) (is k)) (hf ∙ ap (λ (e : Entry). front (carried e (rowsOf b)) (b .rows)) (is k)) (back-is c)
+
+-- ---- a turn of a loop stays inside
+
+place-up : (c : tie.In-loop2 Inv-loop μ-loop Inv-loop2 μ-loop2 Inv-loop3 μ-loop3 Inv-loop4 μ-loop4) → suc (c .before .loop2 .m) < 512
+place-up c = omega (arith, c .before .loop2 .inv .1, c .loop2-test .taken)
+
+row-up : (c : tie.In-loop3 Inv-loop μ-loop Inv-loop2 μ-loop2 Inv-loop3 μ-loop3 Inv-loop4 μ-loop4) → suc (c .before .loop3 .j) < 1024
+row-up c = omega (arith, c .before .loop3 .inv .2, c .loop3-test .taken)
+
+row-down : (c : tie.In-loop4 Inv-loop μ-loop Inv-loop2 μ-loop2 Inv-loop3 μ-loop3 Inv-loop4 μ-loop4) → (1 ≤ c .before .loop4 .k) × (c .before .loop4 .k < 1024)
+row-down c = (omega (arith, c .loop4-test .taken), omega (arith, c .before .loop4 .inv .1, c .before .loop4 .inv .2))
 
 -- ---- the needs
 
@@ -279,36 +293,34 @@ loop2-holds c =
     (omega arith, plan c .few-moves, long (start (c .before)) .1, λ i. record { count = b .count; rows = b .rows; kept = b .kept; undone = b .undone; journal = moved-up-start (b .journal) 0 i })
 
 add-next : tie.Need-add-next Inv-loop μ-loop Inv-loop2 μ-loop2 Inv-loop3 μ-loop3 Inv-loop4 μ-loop4
-add-next c = search needs
+add-next c = record { fits = omega (arith, place-up c) }
 
 mul-next : tie.Need-mul-next Inv-loop μ-loop Inv-loop2 μ-loop2 Inv-loop3 μ-loop3 Inv-loop4 μ-loop4
-mul-next c = search needs
+mul-next c = record { fits = omega (arith, place-up c) }
 
 element-copy-out-next : tie.Need-element-copy-out-next Inv-loop μ-loop Inv-loop2 μ-loop2 Inv-loop3 μ-loop3 Inv-loop4 μ-loop4
-element-copy-out-next c = search needs
+element-copy-out-next c = omega (arith, place-up c)
 
 mul-t48 : tie.Need-mul-t48 Inv-loop μ-loop Inv-loop2 μ-loop2 Inv-loop3 μ-loop3 Inv-loop4 μ-loop4
-mul-t48 c = search needs
+mul-t48 c = record { fits = omega (arith, place-up (c .before)) }
 
 element-set-from-next : tie.Need-element-set-from-next Inv-loop μ-loop Inv-loop2 μ-loop2 Inv-loop3 μ-loop3 Inv-loop4 μ-loop4
-element-set-from-next c = search needs
+element-set-from-next c = omega (arith, place-up (c .before))
 
 add-m : tie.Need-add-m Inv-loop μ-loop Inv-loop2 μ-loop2 Inv-loop3 μ-loop3 Inv-loop4 μ-loop4
-add-m c = search needs
+add-m c = record { fits = omega (arith, place-up (c .before)) }
 
 loop2-less : tie.Need-loop2-less Inv-loop μ-loop Inv-loop2 μ-loop2 Inv-loop3 μ-loop3 Inv-loop4 μ-loop4
-loop2-less c = search needs
+loop2-less c = omega (arith, c .before .loop2-test .taken)
 
 loop2-again : tie.Need-loop2-again Inv-loop μ-loop Inv-loop2 μ-loop2 Inv-loop3 μ-loop3 Inv-loop4 μ-loop4
 loop2-again c =
     let l = c .before .before .loop2 in
-    let v = l .inv in
-    let b = self (c .before .before .before .before) in (
-      omega arith,
+    let v = l .inv in (
+      omega (arith, c .before .loop2-test .taken),
       v .1,
       v .2,
-      ap (λ (x : Board). record { count = x .count; rows = x .rows; kept = x .kept; undone = x .undone; journal = set (x .journal) (l .m) (getD (x .journal) (l .m + 1) noEntry) }) (v .3)
-          ∙ (λ i. record { count = b .count; rows = b .rows; kept = b .kept; undone = b .undone; journal = moved-up-step (b .journal) 0 (l .m) noEntry (omega arith) (omega (arith, v .1, v .2, c .before .loop2-test .taken)) i }),
+      shift-turn (self (c .before .before .before .before)) (l .next) (l .m) (v .3) (omega (arith, v .2, place-up (c .before))),
     )
 
 mul-stored : tie.Need-mul-stored Inv-loop μ-loop Inv-loop2 μ-loop2 Inv-loop3 μ-loop3 Inv-loop4 μ-loop4
@@ -361,41 +373,35 @@ loop3-holds c =
     )
 
 add-next-2 : tie.Need-add-next-2 Inv-loop μ-loop Inv-loop2 μ-loop2 Inv-loop3 μ-loop3 Inv-loop4 μ-loop4
-add-next-2 c = search needs
+add-next-2 c = record { fits = omega (arith, row-up c) }
 
 mul-next-2 : tie.Need-mul-next-2 Inv-loop μ-loop Inv-loop2 μ-loop2 Inv-loop3 μ-loop3 Inv-loop4 μ-loop4
-mul-next-2 c = search needs
+mul-next-2 c = record { fits = omega (arith, row-up c) }
 
 element-copy-out-next-2 : tie.Need-element-copy-out-next-2 Inv-loop μ-loop Inv-loop2 μ-loop2 Inv-loop3 μ-loop3 Inv-loop4 μ-loop4
-element-copy-out-next-2 c = search needs
+element-copy-out-next-2 c = omega (arith, row-up c)
 
 mul-t64 : tie.Need-mul-t64 Inv-loop μ-loop Inv-loop2 μ-loop2 Inv-loop3 μ-loop3 Inv-loop4 μ-loop4
-mul-t64 c = search needs
+mul-t64 c = record { fits = omega (arith, row-up (c .before)) }
 
 element-set-from-next-3 : tie.Need-element-set-from-next-3 Inv-loop μ-loop Inv-loop2 μ-loop2 Inv-loop3 μ-loop3 Inv-loop4 μ-loop4
-element-set-from-next-3 c = search needs
+element-set-from-next-3 c = omega (arith, row-up (c .before))
 
 add-j : tie.Need-add-j Inv-loop μ-loop Inv-loop2 μ-loop2 Inv-loop3 μ-loop3 Inv-loop4 μ-loop4
-add-j c = search needs
+add-j c = record { fits = omega (arith, row-up (c .before)) }
 
 loop3-less : tie.Need-loop3-less Inv-loop μ-loop Inv-loop2 μ-loop2 Inv-loop3 μ-loop3 Inv-loop4 μ-loop4
-loop3-less c = search needs
+loop3-less c = omega (arith, c .before .loop3-test .taken)
 
 loop3-again : tie.Need-loop3-again Inv-loop μ-loop Inv-loop2 μ-loop2 Inv-loop3 μ-loop3 Inv-loop4 μ-loop4
 loop3-again c =
     let l = c .before .before .loop3 in
-    let v = l .inv in
-    let q = c .before .before .before .before in
-    let k = known q in
-    let x = next k in
-    let s = step (taken k .before) in
-    let h : suc (l .j) < length (x .rows) = omega (arith, v .2, v .3, c .before .loop3-test .taken) in (
-      omega arith,
-      omega arith,
+    let v = l .inv in (
+      omega (arith, v .0),
+      omega (arith, c .before .loop3-test .taken),
       v .2,
       v .3,
-      ap (λ (y : Board). stored y (set (y .rows) (l .j) (getD (y .rows) (l .j + 1) blank))) (v .4)
-          ∙ (λ i. record { count = x .count; rows = moved-up-step (x .rows) (found k .at) (l .j) blank (v .0) h i; kept = s .kept; undone = s .undone; journal = set (x .journal) (s .place) (q .inverse-of .result) }),
+      up-turn (turned-board (c .before .before .before .before)) (l .next) (found (known (c .before .before .before .before)) .at) (l .j) (v .4) (v .0) (omega (arith, v .3, row-up (c .before))),
     )
 
 returns-2 : tie.Need-returns-2 Inv-loop μ-loop Inv-loop2 μ-loop2 Inv-loop3 μ-loop3 Inv-loop4 μ-loop4
@@ -430,41 +436,36 @@ loop4-holds c =
     )
 
 sub-next : tie.Need-sub-next Inv-loop μ-loop Inv-loop2 μ-loop2 Inv-loop3 μ-loop3 Inv-loop4 μ-loop4
-sub-next c = search needs
+sub-next c = row-down c .0
 
 mul-next-3 : tie.Need-mul-next-3 Inv-loop μ-loop Inv-loop2 μ-loop2 Inv-loop3 μ-loop3 Inv-loop4 μ-loop4
-mul-next-3 c = search needs
+mul-next-3 c = record { fits = omega (arith, row-down c .1) }
 
 element-copy-out-next-3 : tie.Need-element-copy-out-next-3 Inv-loop μ-loop Inv-loop2 μ-loop2 Inv-loop3 μ-loop3 Inv-loop4 μ-loop4
-element-copy-out-next-3 c = search needs
+element-copy-out-next-3 c = omega (arith, row-down c .1)
 
 mul-t74 : tie.Need-mul-t74 Inv-loop μ-loop Inv-loop2 μ-loop2 Inv-loop3 μ-loop3 Inv-loop4 μ-loop4
-mul-t74 c = search needs
+mul-t74 c = record { fits = omega (arith, row-down (c .before) .1) }
 
 element-set-from-next-4 : tie.Need-element-set-from-next-4 Inv-loop μ-loop Inv-loop2 μ-loop2 Inv-loop3 μ-loop3 Inv-loop4 μ-loop4
-element-set-from-next-4 c = search needs
+element-set-from-next-4 c = row-down (c .before) .1
 
 sub-k : tie.Need-sub-k Inv-loop μ-loop Inv-loop2 μ-loop2 Inv-loop3 μ-loop3 Inv-loop4 μ-loop4
-sub-k c = search needs
+sub-k c = row-down (c .before) .0
 
 loop4-less : tie.Need-loop4-less Inv-loop μ-loop Inv-loop2 μ-loop2 Inv-loop3 μ-loop3 Inv-loop4 μ-loop4
-loop4-less c = search needs
+loop4-less c = omega (arith, c .before .loop4-test .taken)
 
 loop4-again : tie.Need-loop4-again Inv-loop μ-loop Inv-loop2 μ-loop2 Inv-loop3 μ-loop3 Inv-loop4 μ-loop4
 loop4-again c =
     let l = c .before .before .loop4 in
     let v = l .inv in
-    let q = c .before .before .before .before .before in
-    let k = known q in
-    let b = self (taken k .before) in
-    let x = next k in
-    let s = step (taken k .before) in (
-      omega arith,
-      omega arith,
+    let q = c .before .before .before .before .before in (
+      omega (arith, c .before .loop4-test .taken),
+      omega (arith, v .1),
       v .2,
       v .3,
-      ap (λ (y : Board). stored y (set (y .rows) (l .k) (getD (y .rows) (l .k - 1) blank))) (v .4)
-          ∙ (λ i. record { count = x .count; rows = moved-down-step (x .rows) (l .k) (b .count) blank (omega arith) (v .1) (omega (arith, v .2, v .3)) i; kept = s .kept; undone = s .undone; journal = set (x .journal) (s .place) (q .inverse-of .result) }),
+      down-turn (turned-board q) (l .next) (l .k) (self (taken (known q) .before) .count) (v .4) (row-down (c .before) .0) (v .1) (omega (arith, v .2, v .3)),
     )
 
 mul-row : tie.Need-mul-row Inv-loop μ-loop Inv-loop2 μ-loop2 Inv-loop3 μ-loop3 Inv-loop4 μ-loop4

@@ -1,0 +1,2 @@
+pub mod PlanLayer
+pub mod PlanLaws
