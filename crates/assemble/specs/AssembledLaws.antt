@@ -24,16 +24,17 @@ use Rattle.paths.specs.Nodes.{sorted, starts, regular, orphanRows, tops}
 use Rattle.islands.specs.Entries.{islands}
 use Rattle.nodes.specs.Nodes.{entriesOf, nodes}
 use Rattle.nodes.specs.Bodies.{bodies, leftOf}
-use Rattle.nodes.specs.Refusals.{orphanChoice, isEmpty, refusal6, refusal7, refusal8, refusal9, refusal10, refusal11, refusal12, refusalOf}
+use Rattle.built.specs.Room.{refusal9}
+use Rattle.nodes.specs.Refusals.{orphanChoice, isEmpty, refusal6, refusal7, refusal8, refusal10, refusal11, refusal12, refusalOf}
 use Rattle.paths.specs.SiblingLaws.{sorted-is}
 use Rattle.nodes.specs.BodyLaws.{regular-rows, bodies-length, totals-bodies, left-bodies}
 use Rattle.nodes.specs.BodyWalkLaws.{bodies-error}
 use Rattle.nodes.specs.EntryRefusalLaws.{entry-shares}
 use Rattle.nodes.specs.LeftLaws.{accepted-leaves-none}
 use Rattle.nodes.specs.BoundLaws.{bodies-bounded, numeral-of, named}
-use Rattle.request.specs.declared.Built.{Built}
+use Rattle.built.specs.declared.Built.{Built}
 use Rattle.request.specs.Build.{answerOf}
-use Rattle.request.specs.RefusedLayer.{refusedBy}
+use Rattle.built.specs.RefusedLayer.{refusedBy}
 use Rattle.table.specs.TableLayer.{rowColumn, parentColumn, numeralColumn, classColumn}
 use Rattle.walk.specs.WalkLayer.{Walked, Clear}
 use Rattle.finish.specs.FinishLayer.{leftOver, lateRefusal, lateAnswer, bodyMinutes, BodiesOver, NodesWritten, Classes, Finished}

@@ -15,7 +15,7 @@ use Rattle.nodes.specs.Bodies.{bodies, runningTotals}
 use Rattle.nodes.specs.Refusals.{orphanChoice, refusalOf}
 use Rattle.links.specs.PreparedLayer.{Prepared, StartFlags, WithNumerals}
 use Rattle.request.specs.Build.{answerOf}
-use Rattle.request.specs.declared.Built.{Built}
+use Rattle.built.specs.declared.Built.{Built}
 
 module _ (R : List Row) (code : ℕ) (depth : Depth) (start : Row → Bool) where
   -- the answer, and where nothing is refused the image and the totals; a refused build may leave anything

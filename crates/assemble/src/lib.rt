@@ -16,9 +16,9 @@ ghost use Rattle.links.specs.PreparedLayer.{WithNumerals};
 ghost use Rattle.refusals.specs.TestsLayer.{capacityOf};
 ghost use Rattle.enumerate.specs.EnumerateLayer.{ClearWorkspace};
 ghost use Rattle.assemble.specs.AssembledLayer.{RowsBuilt, PreparedRows, AnyPreparedRows};
+use built::Built;
 use options::Choice;
 use options::Depth;
-use request::Built;
 use request::Start;
 use rows::Row;
 
@@ -41,7 +41,7 @@ fn write_nodes(
 {
     let progress = enumerate::enumerate(choice.orphan, depth, cap, table, reached, marks, index);
     if cap < progress.count {
-        return request::refused(9);
+        return built::refused(9);
     }
     finish::finish(choice, progress, minutes, table, reached, index, totals)
 }
@@ -64,7 +64,7 @@ fn place_nodes(
 {
     let refusal = refusals::early_refusal(choice.orphan, table, index.len(), totals.len());
     if refusal != 0 {
-        return request::refused(refusal);
+        return built::refused(refusal);
     }
     let cap = refusals::capacity(index.len(), totals.len());
     write_nodes(

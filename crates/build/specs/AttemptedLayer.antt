@@ -16,7 +16,7 @@ use Rattle.options.specs.Options.{orphanOf}
 use Rattle.nodes.specs.Nodes.{withEntries, nodes}
 use Rattle.nodes.specs.Bodies.{bodies, runningTotals}
 use Rattle.nodes.specs.Refusals.{orphanChoice}
-use Rattle.request.specs.declared.Built.{Built}
+use Rattle.built.specs.declared.Built.{Built}
 
 -- the answer of a build of a board; a refused one may leave anything
 pub record Attempted (b : Board) (code : ℕ) (depth : Depth) (start : Row → Bool) (index index′ : List ℕ) (totals totals′ : List ℤ) (r : Built) : Type 0 where

@@ -21,9 +21,9 @@ use Rattle.nodes.specs.Nodes.{withEntries, nodes}
 use Rattle.nodes.specs.Bodies.{bodies, runningTotals}
 use Rattle.nodes.specs.Refusals.{orphanChoice, refusal6, refusal7, refusalOf}
 use Rattle.links.specs.PreparedLayer.{WithNumerals}
-use Rattle.request.specs.declared.Built.{Built}
+use Rattle.built.specs.declared.Built.{Built}
 use Rattle.request.specs.Build.{answerOf, buildRefusal, builtOf, indexAfter, totalsAfter}
-use Rattle.request.specs.RefusedLayer.{refusedBy}
+use Rattle.built.specs.RefusedLayer.{refusedBy}
 use Rattle.assemble.specs.AssembledLayer.{RowsBuilt}
 use Rattle.assemble.specs.AssembledLaws.{refused-answer}
 use Rattle.build.specs.AttemptedLayer.{Attempted}

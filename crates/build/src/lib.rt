@@ -4,8 +4,8 @@ ghost use lib.ListN.{length};
 ghost use Rattle.request.specs.Build.{startRule, builtOf, indexAfter, totalsAfter, defaultCode, defaultDepth, defaultStart};
 ghost use Rattle.build.specs.AttemptedLayer.{Attempted};
 use board::Board;
+use built::Built;
 use options::Depth;
-use request::Built;
 use request::Start;
 
 // The build of a board. Where it is refused, both slices may hold anything.
@@ -21,14 +21,14 @@ fn attempt(
     ensures { λ r. ⌜ Attempted board code depth (startRule start (now (list .entry))) (now (index .entry)) (now (index .exit)) (now (totals .entry)) (now (totals .exit)) r ⌝ }
 {
     if !board.sound() {
-        return request::refused(1);
+        return built::refused(1);
     }
     if 23 < code {
-        return request::refused(6);
+        return built::refused(6);
     }
     let choice = options::choices(code);
     if refusals::is_depth_refused(choice.orphan, depth) {
-        return request::refused(7);
+        return built::refused(7);
     }
     let rows = board.rows;
     let n = board.count;

@@ -30,8 +30,8 @@ use Rattle.nodes.specs.Refusals.{shared, refusal10, refusal11}
 use Rattle.passes.specs.PassesLayer.{Named, NamedOrEntry, RowsOnce, ByRow, ClassesByRow, CountsClear, ClassesCounted, rowsTo, reachedFlags, anyEntry, anyClosing, classAt, classesTo, classCounts, askedAt, sharesAt, anyShared, minutesAt, totalsTo}
 use Rattle.table.specs.TableLayer.{rowColumn, classColumn, childColumn, nextColumn}
 use Rattle.table.specs.TableLaws.{column-length}
-use Rattle.request.specs.declared.Built.{Built}
-use Rattle.request.specs.RefusedLayer.{refusedBy}
+use Rattle.built.specs.declared.Built.{Built}
+use Rattle.built.specs.RefusedLayer.{refusedBy}
 use Rattle.walk.specs.declared.Progress.{Progress}
 use Rattle.finish.specs.FinishLayer.{NodesWritten, Classes, NodesHeld, leftOver, leftCount, lateRefusal, lateAnswer, bodyMinutes, Finished}
 

@@ -19,7 +19,7 @@ use Rattle.paths.specs.Rows.{row as boardRow, num}
 use Rattle.paths.specs.Nodes.{sorted}
 use Rattle.nodes.specs.Refusals.{refusal10, refusal11}
 use Rattle.passes.specs.PassesLayer.{reachedFlags}
-use Rattle.request.specs.declared.Built.{Built}
+use Rattle.built.specs.declared.Built.{Built}
 use Rattle.table.specs.TableLayer.{rowColumn, classColumn}
 use Rattle.walk.specs.declared.Progress.{Progress}
 

@@ -11,8 +11,8 @@ ghost use Rattle.passes.specs.PassesLayer.{Named, rowsTo, anyClosing};
 ghost use Rattle.nodes.specs.Refusals.{refusal11};
 ghost use Rattle.table.specs.TableLayer.{rowColumn, classColumn};
 ghost use Rattle.finish.specs.FinishLayer.{NodesWritten, Classes, AnyNodesWritten, NodesHeld, AnyNodesHeld, leftOver, leftCount, Finished};
+use built::Built;
 use options::Choice;
-use request::Built;
 use walk::Progress;
 
 // Whether a node closes and that is refused.
@@ -89,14 +89,14 @@ pub fn finish(
     let n = progress.count as usize;
     image::write_contents(index, progress.count, progress.check);
     if is_closed(choice.cycle, index, n) {
-        return request::refused(10);
+        return built::refused(10);
     }
     if is_shared(choice.multi, index, n, table) {
-        return request::refused(11);
+        return built::refused(11);
     }
     let left = count_left(choice.orphan, n, index, reached);
     if is_left(choice.orphan, left) {
-        return request::refused(12);
+        return built::refused(12);
     }
     passes::fill_totals(index, n, minutes, totals);
     Built {

@@ -12,7 +12,7 @@ use Rattle.image.specs.declared.Body.{Body}
 use Rattle.image.specs.Layout.{imageWords, nodeCount, bodyOf, bodiesOf}
 use Rattle.forest.specs.Nodes.{rankOf, nodeAt, treeSize}
 use Rattle.answers.specs.Answers.{Navigation, RefusedNavigation}
-use Rattle.request.specs.declared.Built.{Built}
+use Rattle.built.specs.declared.Built.{Built}
 
 -- a kind of nodes, each a list of numbers
 pub record NodeKind : Type 1 where

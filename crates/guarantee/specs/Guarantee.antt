@@ -30,7 +30,7 @@ use Rattle.nodes.specs.Bodies.{minutesOf, orphanCloses}
 use Rattle.nodes.specs.Refusals.{orphanChoice, given}
 use Rattle.answers.specs.Answers.{First, noOther}
 use Rattle.request.specs.declared.Start.{Start}
-use Rattle.request.specs.declared.Built.{Built}
+use Rattle.built.specs.declared.Built.{Built}
 use Rattle.request.specs.Build.{startRule, builtOf, indexAfter, totalsAfter}
 use Rattle.guarantee.specs.Builds.{NodeKind, Shares, Refused, Build}
 

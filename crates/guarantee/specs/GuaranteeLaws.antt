@@ -44,7 +44,7 @@ use Rattle.answers.specs.Answers.{Navigation}
 use Rattle.answers.specs.DescribedLaws.{count-here}
 use Rattle.answers.specs.NavigationLaws.{navigation-here}
 use Rattle.answers.specs.ZeroLaws.{zeros-refused}
-use Rattle.request.specs.declared.Built.{Built}
+use Rattle.built.specs.declared.Built.{Built}
 use Rattle.request.specs.Build.{startRule, buildRefusal, builtOf, indexAfter, totalsAfter}
 use Rattle.guarantee.specs.Builds.{Accepted, Refused}
 use Rattle.guarantee.specs.Guarantee.{buildNodes, BuildRefusal, PathBuild, BuildOn, RowsFit, SoundBuild, UnsoundBuild, Guarantee}

@@ -22,7 +22,7 @@ use Rattle.paths.specs.Sample.{sample}
 use Rattle.navigate.specs.Navigate.{descendantsAnswer, descendantsOut}
 use Rattle.navigate.specs.Climb.{ancestorsAnswer, ancestorsOut}
 use Rattle.sums.specs.Sums.{subtreeAnswer}
-use Rattle.request.specs.declared.Built.{Built}
+use Rattle.built.specs.declared.Built.{Built}
 use Rattle.request.specs.Build.{builtOf, indexAfter, totalsAfter}
 
 -- the seven lines of the listing program's input, added in order

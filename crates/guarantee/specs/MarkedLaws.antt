@@ -31,7 +31,7 @@ use Rattle.paths.specs.Sample.{sample}
 use Rattle.navigate.specs.Navigate.{badRank, badSpan, descendantList, descendantsAnswer, descendantsOut}
 use Rattle.navigate.specs.Climb.{climbFrom, stuckFrom, ancestorsAnswer, ancestorsOut}
 use Rattle.sums.specs.Sums.{beyond, subtreeAnswer}
-use Rattle.request.specs.declared.Built.{Built}
+use Rattle.built.specs.declared.Built.{Built}
 use Rattle.request.specs.Build.{buildRefusal, builtOf, indexAfter, totalsAfter}
 use Rattle.guarantee.specs.GuaranteeLaws.{answerWhen, indexWhen, totalsWhen}
 use Rattle.guarantee.specs.Marked.{lines, builtIndex, builtTotals, MarkedCases}

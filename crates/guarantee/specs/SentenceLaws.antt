@@ -22,7 +22,8 @@ use Rattle.islands.specs.Islands.{joined, Island}
 use Rattle.islands.specs.Entries.{islands}
 use Rattle.nodes.specs.Nodes.{entriesOf, nodes}
 use Rattle.nodes.specs.Bodies.{treeSize, bodies}
-use Rattle.nodes.specs.Refusals.{orphanChoice, given, isEmpty, shared, refusal6, refusal7, refusal8, refusal9, refusal10, refusal11, refusal12, refusalOf}
+use Rattle.built.specs.Room.{refusal9}
+use Rattle.nodes.specs.Refusals.{orphanChoice, given, isEmpty, shared, refusal6, refusal7, refusal8, refusal10, refusal11, refusal12, refusalOf}
 use Rattle.nodes.specs.NodeLaws.{nodes-once}
 use Rattle.nodes.specs.BodyLaws.{bodies-length}
 use Rattle.nodes.specs.RefusalLaws.{some-top, some-island, no-start, some-unreached, shared-is}

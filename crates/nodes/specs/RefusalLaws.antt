@@ -27,7 +27,8 @@ use Rattle.islands.specs.Entries.{islands}
 use Rattle.islands.specs.EntryLaws.{island-out}
 use Rattle.islands.specs.EntryPathLaws.{islands-is}
 use Rattle.nodes.specs.Bodies.{bodies}
-use Rattle.nodes.specs.Refusals.{orphanChoice, isEmpty, shared, refusal6, refusal7, refusal8, refusal9, refusal10, refusal11, refusal12, refusalOf}
+use Rattle.built.specs.Room.{refusal9}
+use Rattle.nodes.specs.Refusals.{orphanChoice, isEmpty, shared, refusal6, refusal7, refusal8, refusal10, refusal11, refusal12, refusalOf}
 
 pub some-is : (l : List ℕ) → (isEmpty l ≡ false) ↔ ((x : ℕ) × (x ∈ l))
 some-is [] = ((λ e. let z : _≡_ {A = ℕ} 0 1 = cc in absurd (omega arith)), (λ m. absurd (m .1)))

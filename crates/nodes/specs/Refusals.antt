@@ -2,7 +2,7 @@
 -- Assumes nothing: these are definitions.
 use mathlib.Core.Bool.{Bool, true, false, cond, not, _&&_, _||_}
 use mathlib.Core.List.{List, [], _∷_}
-use Prim.Native.Nat.{ℕ, zero, suc, _+_, _*_}
+use Prim.Native.Nat.{ℕ, zero, suc}
 use lib.Dec.{eqb, ltb}
 use lib.ListN.{length}
 use Rattle.rows.specs.declared.Row.{Row}
@@ -10,6 +10,7 @@ use Rattle.options.specs.declared.Depth.{Depth}
 use Rattle.options.specs.declared.Depth.the-variants.{None, Limit}
 use Rattle.options.specs.Options.{orphanOf, multiOf, cycleOf}
 use Rattle.image.specs.declared.Body.{Body}
+use Rattle.built.specs.Room.{refusal9}
 use Rattle.lists.specs.Lists.{filter, any}
 use Rattle.paths.specs.Paths.{Orphan, ignore, error, adopt, root}
 use Rattle.paths.specs.Nodes.{starts, tops, orphanRows}
@@ -46,10 +47,6 @@ refusal7 orphan depth = given depth && not (eqb orphan 0)
 -- "8. Adopt meets a top orphan and there is no start row."; it "then counts islands too"
 abbrev pub refusal8 : ℕ → List ℕ → List ℕ → List ℕ → Bool
 refusal8 orphan topOrphans islandRows startRows = eqb orphan 2 && ((not (isEmpty topOrphans) || not (isEmpty islandRows)) && isEmpty startRows)
-
--- "9. The nodes number over 65,535, or the index has fewer than 8 + 6n words, or the totals fewer than n + 1."
-abbrev pub refusal9 : ℕ → ℕ → ℕ → Bool
-refusal9 n words totals = ltb 65535 n || (ltb words (8 + 6 * n) || ltb totals (n + 1))
 
 -- "10. Cycle is 1 and a node closes."
 abbrev pub refusal10 : ℕ → List Body → Bool

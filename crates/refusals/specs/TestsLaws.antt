@@ -12,7 +12,8 @@ use Rattle.lists.specs.Lists.{numbers, any}
 use Rattle.lists.specs.CountingLaws.{any-here, any-past}
 use Rattle.options.specs.declared.Depth.{Depth}
 use Rattle.options.specs.declared.Depth.the-variants.{None, Limit}
-use Rattle.nodes.specs.Refusals.{given, refusal7, refusal9}
+use Rattle.built.specs.Room.{refusal9}
+use Rattle.nodes.specs.Refusals.{given, refusal7}
 use Rattle.table.specs.TableLayer.{rowColumn, flagColumn}
 use Rattle.refusals.specs.TestsLayer.{capacityOf, startAt, lacksStart, earlyRefusal}
 

@@ -19,7 +19,7 @@ use Rattle.nodes.specs.Bodies.{bodies, runningTotals, leftOf}
 use Rattle.nodes.specs.Refusals.{orphanChoice, refusalOf}
 use Rattle.request.specs.declared.Start.{Start}
 use Rattle.request.specs.declared.Start.the-variants.{ParentZero, Listed}
-use Rattle.request.specs.declared.Built.{Built}
+use Rattle.built.specs.declared.Built.{Built}
 
 -- "the start rule (rows with parent 0, or rows whose numeral is in a lent list)"
 abbrev pub startRule : Start → List ℕ → Row → Bool

@@ -29,7 +29,7 @@ use Rattle.navigate.specs.Navigate.{descendantsAnswer, descendantsOut}
 use Rattle.sums.specs.declared.Summed.{Summed}
 use Rattle.sums.specs.Sums.{subtreeAnswer}
 use Rattle.request.specs.declared.Start.{Start}
-use Rattle.request.specs.declared.Built.{Built}
+use Rattle.built.specs.declared.Built.{Built}
 use Rattle.request.specs.Build.{startRule, builtOf, indexAfter, totalsAfter}
 use Rattle.whole_replay.specs.declared.ReplayedAll.{ReplayedAll}
 use Rattle.guarantee.specs.Guarantee.{Guarantee}

@@ -4,9 +4,9 @@ ghost use lib.ListN.{length};
 ghost use Rattle.history.specs.Encoding.{decoded, replayedOf, refusalsOf};
 ghost use Rattle.request.specs.Build.{startRule};
 ghost use Rattle.whole_replay.specs.Running.{notReplayed, replayAllAnswer, indexLeft, totalsLeft, outLeft, Demand3};
+use built::Built;
 use navigate::Listed;
 use options::Depth;
-use request::Built;
 use request::Start;
 use sums::Summed;
 
