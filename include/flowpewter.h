@@ -5,8 +5,9 @@
  * is three nodes, each with all that is below it. A build writes the nodes into an index, in the order of their ranks,
  * which begin at 1: a node comes before the nodes below it, and siblings by their order, then by their numeral, then by
  * their row number, the smaller first. Rows that no path from a start row reaches are orphans: they are left over, or
- * have paths of their own (FLOWPEWTER_ORPHAN_ADOPT, FLOWPEWTER_ORPHAN_ROOT). The other calls look into such an index by
- * rank. docs/INDEX-FORMAT.md has examples, word by word.
+ * have paths of their own (FLOWPEWTER_ORPHAN_ADOPT, FLOWPEWTER_ORPHAN_ROOT). An index is also built from a levelled
+ * list, whose columns are levels, as large makers send it (flowpewter_build_levelled). The other calls look into an
+ * index by rank. docs/INDEX-FORMAT.md has examples, word by word.
  *
  * Link with target/staticlib/libflowpewter.a, which `rt staticlib flowpewter` makes. It is compiled for x86-64 Linux
  * (System V calls, any x86-64 processor, position-independent) and for nothing else; of the C library it takes memcpy,
@@ -21,10 +22,11 @@
  * even if the call is refused or ignores them. No slice that a call writes may overlap another slice of the call.
  *
  * Stack. Boards are passed and returned by value, and working space is on the stack. No call takes 256 KB of it.
- * Measured by tests/stack.c: a replay 144 KB, an edit 118 KB, a build 111 KB, flowpewter_sound 58 KB, flowpewter_empty
- * 29 KB, any other call next to nothing; a board in a variable of your own is 29 KB more. The usual 8 MB of a Linux
- * thread is plenty. A thread with a small stack is not: musl gives 128 KiB where nothing is said, and an edit or a
- * build beside a board of your own would run over its end. There, ask for 512 KB by pthread_attr_setstacksize.
+ * Measured by tests/stack.c: a replay 144 KB, an edit 118 KB, a build of a board 111 KB, flowpewter_sound 58 KB,
+ * flowpewter_empty 29 KB, a build of a levelled list 15 KB, any other call next to nothing; a board in a variable of
+ * your own is 29 KB more. The usual 8 MB of a Linux thread is plenty. A thread with a small stack is not: musl gives
+ * 128 KiB where nothing is said, and an edit or a build beside a board of your own would run over its end. There, ask
+ * for 512 KB by pthread_attr_setstacksize.
  *
  * Comparing boards. Two boards are the same when their counts, their first `count` rows, their kept and undone numbers
  * and their first `kept + undone` journal entries are; of an entry that takes a row out, `row` isn't read and doesn't
@@ -42,7 +44,8 @@
 extern "C" {
 #endif
 
-/* Why a call was refused; 0 is no refusal. Of the reasons that hold, the one with the smallest number is given.
+/* Why a call was refused; 0 is no refusal. Of the reasons that hold, the one with the smallest number is given; but a
+ * levelled list is refused by 18 and 19 before 9.
  *
  * A refused edit returns the board it got. A refused build zeroes both slices and its two counts. A refused navigation
  * or sum writes nothing and returns counts and sums of 0. A refused replay writes nothing and returns no calls and the
@@ -76,6 +79,9 @@ enum {
                                                   own minutes used in a path sum leave int32_t */
     FLOWPEWTER_REFUSED_LIST_TOO_LONG = 16,     /* the list found is longer than its slice */
     FLOWPEWTER_REFUSED_NOTHING_UNDONE = 17,    /* redo finds no undone step */
+    FLOWPEWTER_REFUSED_NOT_WHOLE_LINES = 18,   /* a levelled list has a width of 0 or above 8, or the number of its
+                                                  cells isn't a multiple of the width */
+    FLOWPEWTER_REFUSED_TOO_MANY_LINES = 19,    /* a levelled list has more than 512 lines */
     /* by flowpewter_replay as a whole; what it says of each call is one of the above */
     FLOWPEWTER_REFUSED_PART_OF_CALL = 101,     /* the words are no whole number of calls */
     FLOWPEWTER_REFUSED_UNKNOWN_CALL = 102,     /* a call is of no known kind */
@@ -187,7 +193,7 @@ typedef struct flowpewter_replayed {
  * of it stays. 101, 102, 103. */
 flowpewter_replayed flowpewter_replay(const uint32_t *words, size_t words_len, uint32_t *refusals, size_t refusals_len);
 
-/* ---- builds; refusals 1 and 6 to 12 */
+/* ---- builds; refusals 1 and 6 to 12, of levelled lists 18, 19 and 9 */
 
 /* The index: a table of contents, then a body for each node, in the order of their ranks. */
 enum {
@@ -200,11 +206,13 @@ enum {
 /* The words of a body. */
 enum {
     FLOWPEWTER_BODY_NUMERAL = 0,
-    FLOWPEWTER_BODY_ROW = 1,    /* number of the row that the node's path ends with; 0 for an entry, which is no row */
+    FLOWPEWTER_BODY_ROW = 1,    /* number of the row that the node's path ends with; 0 for an entry, which is no row; of
+                                   a levelled list the place, from 1, of the first sorted line that has the beginning */
     FLOWPEWTER_BODY_SIZE = 2,   /* the node and all nodes below it */
     FLOWPEWTER_BODY_PARENT = 3, /* rank of the parent, 0 for a root */
     FLOWPEWTER_BODY_ROOT = 4,   /* rank of the root above the node */
-    FLOWPEWTER_BODY_LEVEL = 5   /* level, 1 for a root, in bits 0 to 15; flags in bits 30 and 31 */
+    FLOWPEWTER_BODY_LEVEL = 5   /* level in bits 0 to 15: of a board 1 for a root, else the parent's and 1; of a
+                                   levelled list the number of the column, from 1; flags in bits 30 and 31 */
 };
 
 #define FLOWPEWTER_LEVEL_MASK UINT32_C(0xffff)
@@ -254,7 +262,8 @@ enum {
 typedef struct flowpewter_built {
     uint32_t refusal;
     uint32_t nodes;
-    uint32_t left; /* rows that end no node; 0 where orphans aren't ignored */
+    uint32_t left; /* rows that end no node, 0 where orphans aren't ignored; of a levelled list the lines wholly
+                      blank */
 } flowpewter_built;
 
 /* Builds the index of the board's paths, and the running totals of their minutes: 0, then the minutes added node by
@@ -270,6 +279,22 @@ flowpewter_built flowpewter_build(flowpewter_board board, uint32_t code, bool ha
 /* The same with code 0, no depth, paths starting from rows with parent 0. */
 flowpewter_built flowpewter_build_default(flowpewter_board board, uint32_t *index, size_t index_len, int64_t *totals,
                                           size_t totals_len);
+
+enum {
+    FLOWPEWTER_MAX_WIDTH = 8,  /* most cells of a line */
+    FLOWPEWTER_MAX_LINES = 512 /* most lines of a levelled list */
+};
+
+/* Builds the index of a levelled list: lines of `width` cells each, one behind the other, in any order. The column of a
+ * cell is its level, and 0 is a blank. Words and totals beyond stay. No list has more than 4,096 nodes. 18, 19, then 9.
+ *
+ * The lines are sorted cell by cell, the smaller first and blanks last. Each distinct beginning of a line that ends in
+ * a filled cell is a node; blanks before that cell are part of the beginning. Its numeral is that cell, its level the
+ * column's number, its flags are 0. Its row number is the place, from 1, of the first line that has it among all sorted
+ * lines, equal and blank ones too. Its parent is the longest shorter beginning that ends in a filled cell; where there
+ * is none, it is a root, of whatever level. Ranks follow the lines, and on a line the columns. All totals are 0. */
+flowpewter_built flowpewter_build_levelled(const uint32_t *cells, size_t cells_len, uint32_t width, uint32_t *index,
+                                           size_t index_len, int64_t *totals, size_t totals_len);
 
 /* ---- navigation of any slices, built here or not; refusals 13 to 16. Ranks are counted from 1. Distance is the listed
  * node's level less that of the rank given; lo and hi are included, and a lo above hi lists nothing. Lists go to the
@@ -289,7 +314,8 @@ typedef struct flowpewter_listed {
 typedef struct flowpewter_climbed {
     uint32_t refusal;
     size_t len;
-    size_t links; /* parent links followed, those to rank 0 not counted: the level less 1 on a built index */
+    size_t links; /* parent links followed, those to rank 0 not counted: on an index built from a board the level less
+                     1, on one of a levelled list the number of shorter beginnings that are nodes */
 } flowpewter_climbed;
 
 typedef struct flowpewter_summed {
@@ -322,7 +348,7 @@ flowpewter_summed flowpewter_path_sum(const uint32_t *index, size_t index_len, c
                                       uint32_t rank);
 
 /* Whether the slice holds an index whose words agree with each other, as every index that an accepted build leaves
- * does. */
+ * does. A root may have any level from 1, any other node any above its parent's. */
 bool flowpewter_index_check(const uint32_t *index, size_t index_len);
 
 #ifdef __cplusplus

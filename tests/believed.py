@@ -16,11 +16,11 @@ import re
 import sys
 
 # The crates whose public functions are the product's calls: what their contracts cite is followed.
-ENTRIES = "board history build navigate sums index_check whole_replay flowpewter lines printing listing streams numerals"
+ENTRIES = "board history build levelled navigate sums index_check whole_replay flowpewter lines printing listing streams numerals"
 
 # The theorems whose statements are followed.
 THEOREMS = {
-    "guarantee": "guarantee sound-build unsound-build marked-cases built-accepted built-distances built-links",
+    "guarantee": "guarantee sound-build unsound-build levelled-build marked-cases built-accepted built-distances built-links",
     "options": "taken-apart composed",
     "islands": "entries-entered entered-unique",
     "nodes": "joining-unique nodes-unique entry-closes entry-shares accepted-leaves-none",

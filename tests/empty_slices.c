@@ -59,6 +59,38 @@ static void builds_that_read_no_list(void) {
     }
 }
 
+static void builds_of_no_lines(void) {
+    const uint32_t short_slice = FLOWPEWTER_REFUSED_TOO_MANY_NODES;
+    const uint32_t not_whole = FLOWPEWTER_REFUSED_NOT_WHOLE_LINES;
+    refused("no lines of no cells", flowpewter_build_levelled(NULL, 0, 0, NULL, 0, NULL, 0).refusal, not_whole);
+    refused("no lines of 9 cells", flowpewter_build_levelled(NULL, 0, 9, NULL, 0, NULL, 0).refusal, not_whole);
+    for (uint32_t width = 1; width <= FLOWPEWTER_MAX_WIDTH; width++) {
+        uint32_t contents[FLOWPEWTER_INDEX_LEN(0)];
+        int64_t total[FLOWPEWTER_TOTALS_LEN(0)] = {7};
+        const flowpewter_built built =
+            flowpewter_build_levelled(NULL, 0, width, contents, FLOWPEWTER_INDEX_LEN(0), total, 1);
+        expect("no lines", built.refusal == 0 && built.nodes == 0 && built.left == 0 && total[0] == 0);
+        expect("index of no lines", flowpewter_index_check(contents, FLOWPEWTER_INDEX_LEN(0)));
+        refused("no lines, no words and no totals",
+                flowpewter_build_levelled(NULL, 0, width, NULL, 0, NULL, 0).refusal, short_slice);
+        refused("no lines, no words", flowpewter_build_levelled(NULL, 0, width, NULL, 0, total, 1).refusal,
+                short_slice);
+        refused("no lines, no totals",
+                flowpewter_build_levelled(NULL, 0, width, contents, FLOWPEWTER_INDEX_LEN(0), NULL, 0).refusal,
+                short_slice);
+    }
+}
+
+static void lines_into_nothing(void) {
+    static const uint32_t cells[FLOWPEWTER_MAX_LINES + 1] = {10};
+    refused("a line, no words and no totals", flowpewter_build_levelled(cells, 1, 1, NULL, 0, NULL, 0).refusal,
+            FLOWPEWTER_REFUSED_TOO_MANY_NODES);
+    refused("half a line", flowpewter_build_levelled(cells, 1, 2, NULL, 0, NULL, 0).refusal,
+            FLOWPEWTER_REFUSED_NOT_WHOLE_LINES);
+    refused("513 lines", flowpewter_build_levelled(cells, FLOWPEWTER_MAX_LINES + 1, 1, NULL, 0, NULL, 0).refusal,
+            FLOWPEWTER_REFUSED_TOO_MANY_LINES);
+}
+
 static void navigation_of_nothing(void) {
     const uint32_t no_index = FLOWPEWTER_REFUSED_NO_INDEX;
     const flowpewter_span_answer part = flowpewter_span(NULL, 0, 1);
@@ -97,6 +129,8 @@ int main(void) {
     builds_into_nothing();
     builds_from_no_numerals();
     builds_that_read_no_list();
+    builds_of_no_lines();
+    lines_into_nothing();
     navigation_of_nothing();
     lists_to_nowhere();
     replays();

@@ -57,6 +57,8 @@ static void constants(void) {
     CONSTANT(MAX_KEPT);
     CONSTANT(MAX_UNDONE);
     CONSTANT(JOURNAL_PLACES);
+    CONSTANT(MAX_WIDTH);
+    CONSTANT(MAX_LINES);
     CONSTANT(MAX_NODES);
     CONSTANT(CONTENTS);
     CONSTANT(BODY);
@@ -86,6 +88,8 @@ static void refusals(void) {
     REFUSAL(DamagedIndex, DAMAGED_INDEX);
     REFUSAL(ListTooLong, LIST_TOO_LONG);
     REFUSAL(NothingUndone, NOTHING_UNDONE);
+    REFUSAL(NotWholeLines, NOT_WHOLE_LINES);
+    REFUSAL(TooManyLines, TOO_MANY_LINES);
     REFUSAL(PartOfCall, PART_OF_CALL);
     REFUSAL(UnknownCall, UNKNOWN_CALL);
     REFUSAL(FewRefusalWords, FEW_REFUSAL_WORDS);

@@ -31,11 +31,17 @@ compile layout tests/layout.c
 cargo run --offline --release --quiet --manifest-path rust/Cargo.toml --bin layout >"$out/layout.rust.out"
 same "layouts and constants in C and Rust" "$out/layout.c.out" "$out/layout.rust.out"
 
-compile valve examples/c/valve.c
-"$out/valve" >"$out/valve.c.out"
-cargo run --offline --release --quiet --manifest-path rust/Cargo.toml --example valve >"$out/valve.rust.out"
-same "the valve in C and its listing" "$out/valve.c.out" examples/valve.out
-same "the valve in Rust and its listing" "$out/valve.rust.out" examples/valve.out
+# example NAME: an example in C and in Rust, and what both print
+example() {
+    compile "$1" "examples/c/$1.c"
+    "$out/$1" >"$out/$1.c.out"
+    cargo run --offline --release --quiet --manifest-path rust/Cargo.toml --example "$1" >"$out/$1.rust.out"
+    same "the $1 in C and its listing" "$out/$1.c.out" "examples/$1.out"
+    same "the $1 in Rust and its listing" "$out/$1.rust.out" "examples/$1.out"
+}
+
+example valve
+example sheet
 
 compile stack tests/stack.c
 "$out/stack"

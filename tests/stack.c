@@ -14,6 +14,9 @@ enum {
     TOTALS = FLOWPEWTER_TOTALS_LEN(NODES),
     CALLS = NODES + 5,
     CALL_WORDS = FLOWPEWTER_CALL_WORDS * CALLS,
+    CELLS = FLOWPEWTER_MAX_WIDTH * FLOWPEWTER_MAX_LINES,
+    WIDE_WORDS = FLOWPEWTER_INDEX_LEN(CELLS),
+    WIDE_TOTALS = FLOWPEWTER_TOTALS_LEN(CELLS),
     STACK = 8 << 20,
     MOST = 256000,
     PAINT = 0xA5
@@ -27,6 +30,10 @@ static uint32_t list[NODES];
 /* Adds that fill a board, then each other kind of call. */
 static uint32_t calls[CALL_WORDS];
 static uint32_t refusals[CALLS];
+/* The largest levelled list, no cell of which is blank: each is a node. The last line comes first. */
+static uint32_t cells[CELLS];
+static uint32_t wide_words[WIDE_WORDS];
+static int64_t wide_totals[WIDE_TOTALS];
 
 static flowpewter_board made;
 static flowpewter_edited edited;
@@ -93,6 +100,13 @@ static void build_by_list(void) {
     answer = built.nodes;
 }
 
+static void build_levelled(void) {
+    flowpewter_built built = flowpewter_build_levelled(cells, CELLS, FLOWPEWTER_MAX_WIDTH, wide_words, WIDE_WORDS,
+                                                       wide_totals, WIDE_TOTALS);
+    refusal = built.refusal;
+    answer = built.nodes;
+}
+
 static void span(void) {
     flowpewter_span_answer found = flowpewter_span(words, WORDS, 1);
     refusal = found.refusal;
@@ -148,6 +162,7 @@ static const struct job {
     {"replay", replay, 0, NODES - 1},
     {"build_default", build, 0, NODES},
     {"build", build_by_list, 0, NODES},
+    {"build_levelled", build_levelled, 0, CELLS},
     {"span", span, 0, FLOWPEWTER_BODY * NODES},
     {"descendants", descendants, 0, NODES},
     {"ancestors", ancestors, 0, NODES - 1},
@@ -203,9 +218,16 @@ static void fill_calls(void) {
     memcpy(calls + FLOWPEWTER_CALL_WORDS * NODES, others, sizeof others);
 }
 
+static void fill_cells(void) {
+    for (uint32_t i = 0; i < CELLS; i++) {
+        cells[i] = CELLS - i;
+    }
+}
+
 int main(void) {
     fill_board();
     fill_calls();
+    fill_cells();
     unsigned char *stack = aligned_alloc(4096, STACK);
     if (stack == NULL) {
         return 2;

@@ -17,14 +17,14 @@ use Rattle.image.specs.ImageLayer.{HoldsImage}
 use Rattle.navigate.specs.Navigate.{within, distance}
 use Rattle.navigate.specs.Climb.{chain, ancestorList, ancestorsAnswer}
 use Rattle.sums.specs.HeldLaws.{HoldsTotals}
-use Rattle.forest.specs.Nodes.{nodeAt, begins, falling}
+use Rattle.forest.specs.Nodes.{nodeAt, begins, falling, init, beginnings}
 use Rattle.forest.specs.ForestLaws.{Forest, Closed}
 use Rattle.forest.specs.BeginningLaws.{begins-length}
-use Rattle.answers.specs.Answers.{First, applies, otherwise, Navigation, DistancesAtMostZero, LinksByLevel}
+use Rattle.answers.specs.Answers.{First, applies, otherwise, Navigation, DistancesAtMostZero, LinksByLevel, LinksByBeginnings}
 use Rattle.answers.specs.DescribedLaws.{Described, level-here}
 use Rattle.answers.specs.AnswerLaws.{has-rank, descendants-here, siblings-here, subtree-sum-here}
 use Rattle.answers.specs.RankLaws.{falling-out}
-use Rattle.answers.specs.ClimbLaws.{closed-links, chain-here, ancestors-here}
+use Rattle.answers.specs.ClimbLaws.{shorter-count, closed-links, chain-here, ancestors-here}
 use Rattle.answers.specs.PathSumLaws.{path-sum-here}
 
 -- a smaller number less a larger one
@@ -68,6 +68,12 @@ module _ {W : List (List ℕ)} (g : Forest W) {bs : List Body} (b : Described W 
 
     links-here : Closed W → ancestorsAnswer s rank lower upper out .links ≡ levelAt s rank - 1
     links-here closed = omega (arith, ancestors-here g b short small h rank lower upper out .accepted z, closed-links g closed rank (in-list .0) (in-list .1), level)
+
+    links-shorter : ancestorsAnswer s rank lower upper out .links ≡ length (beginnings W (init (nodeAt W rank)))
+    links-shorter = omega (arith, ancestors-here g b short small h rank lower upper out .accepted z, shorter-count g rank (in-list .0) (in-list .1))
+
+  pub links-by-beginnings : LinksByBeginnings W s
+  links-by-beginnings = links-shorter
 
   pub distances-at-most-zero : DistancesAtMostZero s
   distances-at-most-zero = distance-here

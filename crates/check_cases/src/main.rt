@@ -1,5 +1,5 @@
-// Runs the index check on the example index of paper 01, on one slice for each condition that breaks it alone, and on
-// indexes of 65,535 nodes. Writes one line for each.
+// Runs the index check on the example index of paper 01, on one slice for each condition that breaks it alone, on some that
+// break none, and on indexes of 65,535 nodes. Writes one line for each.
 ghost use Prim.Native.Nat.{_<_, _≤_};
 
 fn report(name: &[u8], index: &[u32]) {
@@ -119,8 +119,19 @@ fn main() {
     report_body(b"parent that isn't the largest", 8, 1, 1, 1, 1073741826);
     report_body(b"parent 0 below a node", 8, 1, 0, 8, 1073741825);
     report_body(b"parent 4294967295", 9, 1, 4294967295, 9, 2147483649);
+    report_body(b"root with level 0", 9, 1, 0, 9, 2147483648);
     report_body(b"root with level 2", 9, 1, 0, 9, 2147483650);
+    report_body(b"root with level 65535", 9, 1, 0, 9, 2147549183);
+    report_body(b"child two levels below its parent", 8, 1, 7, 1, 1073741829);
     report_body(b"child with its parent's level", 8, 1, 7, 1, 1073741827);
+    report_body(
+        b"child with a level less than its parent's",
+        8,
+        1,
+        7,
+        1,
+        1073741826,
+    );
     report_body(
         b"root with another's rank as root rank",
         9,

@@ -7,6 +7,7 @@ ghost use Rattle.navigate.specs.Climb.{ancestorsAnswer, ancestorsOut};
 ghost use Rattle.sums.specs.Sums.{subtreeAnswer, pathAnswer};
 ghost use Rattle.index_check.specs.IndexCheck.{accepts};
 ghost use Rattle.request.specs.Build.{startRule, builtOf, indexAfter, totalsAfter, defaultCode, defaultDepth, defaultStart};
+ghost use Rattle.levels.specs.Levelled.{levelledBuilt, levelledIndex, levelledTotals};
 ghost use Rattle.history.specs.Encoding.{replayedOf, refusalsOf};
 ghost use Rattle.flowpewter.specs.Spans.{spanOf};
 ghost use Rattle.flowpewter.specs.Requests.{depthOf, startOf};
@@ -136,6 +137,20 @@ pub extern "C" fn flowpewter_build_default(
     ensures { λ _. ⌜ now (totals .exit) ≡ totalsAfter board defaultCode defaultDepth defaultStart (length (now (index .entry))) (now (totals .entry)) ⌝ }
 {
     build::build_default(board, index, totals)
+}
+
+#[no_mangle]
+pub extern "C" fn flowpewter_build_levelled(
+    cells: &[u32],
+    width: u32,
+    index: &mut [u32],
+    totals: &mut [i64],
+) -> Built
+    ensures { λ r. ⌜ r ≡ levelledBuilt (now (cells .entry)) width (length (now (index .entry))) (length (now (totals .entry))) ⌝ }
+    ensures { λ _. ⌜ now (index .exit) ≡ levelledIndex (now (cells .entry)) width (now (index .entry)) (length (now (totals .entry))) ⌝ }
+    ensures { λ _. ⌜ now (totals .exit) ≡ levelledTotals (now (cells .entry)) width (length (now (index .entry))) (now (totals .entry)) ⌝ }
+{
+    levelled::build_levelled(cells, width, index, totals)
 }
 
 // A returned part of a slice can't be exported: the caller cuts it out by start and length.

@@ -27,7 +27,7 @@ use Rattle.nodes.specs.NodeLaws.{nodes-forest}
 use Rattle.nodes.specs.ParentLaws.{nodes-closed}
 use Rattle.index_check.specs.IndexCheck.{accepts}
 use Rattle.answers.specs.Answers.{DistancesAtMostZero, LinksByLevel}
-use Rattle.answers.specs.DescribedLaws.{closed-accepted}
+use Rattle.answers.specs.DescribedLaws.{described-accepted}
 use Rattle.answers.specs.NavigationLaws.{distances-at-most-zero, links-by-level}
 use Rattle.request.specs.Build.{buildRefusal, builtOf, indexAfter}
 use Rattle.guarantee.specs.BodyLaws.{described, short}
@@ -69,7 +69,7 @@ module _ (b : Board) (code : ℕ) (depth : Depth) (starts : Row → Bool) (index
 
   -- the index check's answer is yes
   pub built-accepted : accepts (indexAfter b code depth starts index (length totals)) ≡ true
-  built-accepted = closed-accepted (nodes-forest R starts depth o) (described R starts depth o (r .allowed)) (short R starts depth o few) held closed (r .small)
+  built-accepted = described-accepted (nodes-forest R starts depth o) (described R starts depth o (r .allowed)) (short R starts depth o few) held (r .small)
 
   -- "on a built index distances are 0 or less"
   pub built-distances : DistancesAtMostZero (indexAfter b code depth starts index (length totals))

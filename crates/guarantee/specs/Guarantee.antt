@@ -33,6 +33,7 @@ use Rattle.request.specs.declared.Start.{Start}
 use Rattle.built.specs.declared.Built.{Built}
 use Rattle.request.specs.Build.{startRule, builtOf, indexAfter, totalsAfter}
 use Rattle.guarantee.specs.Builds.{NodeKind, Shares, Refused, Build}
+use Rattle.guarantee.specs.LevelledBuilds.{AnyLevelledBuild}
 
 -- ---- the nodes over the rows R, and what their bodies say
 
@@ -128,3 +129,5 @@ UnsoundBuild b = soundOf b ≡ false → (code : ℕ) (depth : Depth) (rule : St
 pub record Guarantee (cs : List Call) : Type 0 where
   pub edits : Simulates cs
   pub build : BuildOn (final emptyOf cs) (after start cs .rows) (AllFit cs)
+  -- a build of a levelled list takes no board, and is the same after any calls
+  pub levelled : AnyLevelledBuild

@@ -51,6 +51,7 @@ use Rattle.guarantee.specs.Guarantee.{buildNodes, BuildRefusal, PathBuil
 use Rattle.guarantee.specs.BodyLaws.{node-list, read-of, described, short}
 use Rattle.guarantee.specs.SentenceLaws.{first-sentence}
 use Rattle.guarantee.specs.MinutesLaws.{rows-fit}
+use Rattle.guarantee.specs.LevelledBuildLaws.{levelled-build}
 
 -- sentence 7 doesn't apply, so a depth is given only where there are no orphan nodes
 allowed-here : (depth : Depth) (orphan : ℕ) → refusal7 orphan depth ≡ false → Allowed depth (orphanChoice orphan)
@@ -200,4 +201,5 @@ guarantee cs = record {
   edits = simulation cs;
   build = subst (λ R. BuildOn (final emptyOf cs) R (AllFit cs)) (final-rows cs)
       (build-on (final emptyOf cs) (final-sound cs) (AllFit cs) (λ g. subst RowsFit (sym (final-rows cs)) (rows-fit cs g)));
+  levelled = levelled-build;
 }

@@ -1,8 +1,10 @@
 pub mod Builds
+pub mod LevelledBuilds
 pub mod Guarantee
 pub mod BodyLaws
 pub mod SentenceLaws
 pub mod MinutesLaws
+pub mod LevelledBuildLaws
 pub mod GuaranteeLaws
 pub mod BuiltIndexLaws
 pub mod Marked

@@ -35,13 +35,13 @@ use Rattle.guarantee.specs.BodyLaws.{body-of}
 both : (a b : Bool) {A B : Type 0} → T a ↔ A → T b ↔ B → T (a && b) ↔ (A × B)
 both a b f g = ((λ t. let r = and-out a b t in (f .0 (r .0), g .0 (r .1))), (λ x. and-in a b (f .1 (x .0)) (g .1 (x .1))))
 
-one-of : (a b : Bool) {A B : Type 0} → T a ↔ A → T b ↔ B → T (a || b) ↔ (A ⊎ B)
+pub one-of : (a b : Bool) {A B : Type 0} → T a ↔ A → T b ↔ B → T (a || b) ↔ (A ⊎ B)
 one-of a b f g = ((λ t. ⊎-elim (λ x. inl (f .0 x)) (λ x. inr (g .0 x)) (or-out a b t)), ⊎-elim (λ x. or-left a b (f .1 x)) (λ x. or-right a b (g .1 x)))
 
-equal : (a b : ℕ) → T (eqb a b) ↔ (a ≡ b)
+pub equal : (a b : ℕ) → T (eqb a b) ↔ (a ≡ b)
 equal a b = (eqb→eq a b, eq→eqb a b)
 
-unequal : (a b : ℕ) → T (not (eqb a b)) ↔ (a ≢ b)
+pub unequal : (a b : ℕ) → T (not (eqb a b)) ↔ (a ≢ b)
 unequal a b = ((λ t e. T-not (eqb a b) t (eq→eqb a b e)), (λ n. not-T (eqb a b) (λ t. n (eqb→eq a b t))))
 
 holds : (t : Bool) → T t ↔ (t ≡ true)
@@ -49,6 +49,11 @@ holds t = (is-true t, (λ e. subst T (sym e) tt))
 
 fails : (t : Bool) → T (not t) ↔ (t ≡ false)
 fails t = ((λ n. is-false t (T-not t n)), (λ e. subst (λ x. T (not x)) (sym e) tt))
+
+-- sentence 9
+pub ninth : (n words totals : ℕ) → T (refusal9 n words totals) ↔ ((65535 < n) ⊎ ((words < 8 + 6 * n) ⊎ (totals < n + 1)))
+ninth n words totals =
+    one-of (ltb 65535 n) (ltb words (8 + 6 * n) || ltb totals (n + 1)) (less 65535 n) (one-of (ltb words (8 + 6 * n)) (ltb totals (n + 1)) (less words (8 + 6 * n)) (less totals (n + 1)))
 
 module _ (R : List Row) (start : Row → Bool) (depth : Depth) (o : Orphan) where
   -- some body passes a test exactly when some node has what the test says
@@ -153,7 +158,7 @@ module _ (R : List Row) (code : ℕ) (depth : Depth) (start : Row → Bool) (wor
       first-step (refusal6 code) (less 23 code) 6 _
       (first-step (refusal7 c depth) (both (given depth) (not (eqb c 0)) ((λ t. t), (λ t. t)) (unequal c 0)) 7 _
       (first-step (refusal8 c (tops R start depth) (islands R start) (starts R start)) eighth 8 _
-      (first-step (refusal9 (length bs) words totals) ninth 9 _
+      (first-step (refusal9 (length bs) words totals) (subst (λ n. T (refusal9 (length bs) words totals) ↔ ((65535 < n) ⊎ ((words < 8 + 6 * n) ⊎ (totals < n + 1)))) (bodies-length R start depth o) (ninth (length bs) words totals)) 9 _
       (first-step (refusal10 (cycleOf code) bs) (both (eqb (cycleOf code) 1) (any (λ (b : Body). b .closing) bs) (equal (cycleOf code) 1) (some-body R start depth o (λ (b : Body). b .closing) (Closing R start depth o (entriesOf R start depth o)) (closing-at R start depth o))) 10 _
       (first-step (refusal11 (multiOf code) bs) eleventh 11 _
       (first-step (refusal12 c (orphanRows R start depth)) twelfth 12 0 refl))))))
@@ -188,12 +193,6 @@ module _ (R : List Row) (code : ℕ) (depth : Depth) (start : Row → Bool) (wor
               (⊎-elim (λ u. inl (some-top R start depth .1 u)) (λ u. inr (some-island R start (entriesOf R start depth o) .1 u)) (r .1), no-start R start depth .1 (r .2)),
             )),
           )
-
-      ninth : T (refusal9 (length bs) words totals) ↔ ((65535 < length W) ⊎ ((words < 8 + 6 * length W) ⊎ (totals < length W + 1)))
-      ninth =
-          subst (λ n. T (refusal9 (length bs) words totals) ↔ ((65535 < n) ⊎ ((words < 8 + 6 * n) ⊎ (totals < n + 1)))) (bodies-length R start depth o)
-          (one-of (ltb 65535 (length bs)) (ltb words (8 + 6 * length bs) || ltb totals (length bs + 1)) (less 65535 (length bs))
-          (one-of (ltb words (8 + 6 * length bs)) (ltb totals (length bs + 1)) (less words (8 + 6 * length bs)) (less totals (length bs + 1))))
 
       eleventh : T (refusal11 (multiOf code) bs)
           ↔ (((multiOf code ≡ 2) × ((p : List ℕ) × (p ∈ W) × Shares (pathNodes R start depth o (entriesOf R start depth o)) W p)) ⊎ ((multiOf code ≡ 1) × ((p : List ℕ) × (p ∈ W) × (1 < treeSize W p) × Shares (pathNodes R start depth o (entriesOf R start depth o)) W p)))

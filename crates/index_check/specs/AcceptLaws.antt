@@ -6,10 +6,10 @@ use mathlib.Core.Bool.{Bool, true, false, cond}
 use mathlib.Core.List.{List}
 use Prim.Native.Nat.{ℕ, _+_, _*_, _-_, _/_, _%_, _^_, _≤_, _<_}
 use native.Mathlib.Omega.{arith}
-use lib.Dec.{leb, eqb}
+use lib.Dec.{ltb, leb, eqb}
 use lib.ListN.{length, getD, take, drop}
 use lib.Seq.{take-append-seam}
-use borrow.Author.Tests.{eq-eqb, ne-eqb, le-leb}
+use borrow.Author.Tests.{eq-eqb, ne-eqb, le-leb, lt-ltb}
 use Rattle.lists.specs.RangeLaws.{all-of, largest-here, largest-below}
 use Rattle.packed.specs.LastWordLaws.{zeros-packed}
 use Rattle.image.specs.Layout.{nodeCount, sizeAt, parentAt, rootAt, wordAt, levelAt, flat, checked, contentsWords, imageWords, bodyOf, badContents}
@@ -27,7 +27,7 @@ pub record RootRank (s : List ℕ) (k : ℕ) : Type 0 where
   pub parent : parentAt s k ≡ 0
   pub alone : (r : ℕ) → 1 ≤ r → r < k → k < r + sizeAt s r → ⊥
   pub end : endOf s k ≤ nodeCount s
-  pub level : levelAt s k ≡ 1
+  pub level : 1 ≤ levelAt s k
   pub root : rootAt s k ≡ k
 
 -- rank k is the child of a lower rank, the largest whose interval contains it
@@ -36,7 +36,7 @@ pub record ChildRank (s : List ℕ) (k : ℕ) : Type 0 where
   pub below : parentAt s k < k
   pub largest : (r : ℕ) → 1 ≤ r → r < k → k < r + sizeAt s r → r ≤ parentAt s k
   pub end : k + sizeAt s k ≤ parentAt s k + sizeAt s (parentAt s k)
-  pub level : levelAt s k ≡ levelAt s (parentAt s k) + 1
+  pub level : levelAt s (parentAt s k) < levelAt s k
   pub root : rootAt s k ≡ rootAt s (parentAt s k)
 
 module _ (s : List ℕ) (k : ℕ) (low : 1 ≤ k) (size : 1 ≤ sizeAt s k) (bits : bitsRight s k ≡ true) where
@@ -46,7 +46,7 @@ module _ (s : List ℕ) (k : ℕ) (low : 1 ≤ k) (size : 1 ≤ sizeAt s k) (bit
     size = le-leb 1 (sizeAt s k) size;
     end = ap (λ (t : Bool). leb (endOf s k) (cond t (nodeCount s) (endOf s (parentAt s k)))) z ∙ le-leb (endOf s k) (nodeCount s) (r .end);
     parent = eq-eqb (parentAt s k) (parentOf s k) (r .parent ∙ sym none);
-    level = ap (λ (t : Bool). eqb (levelAt s k) (cond t 1 (levelAt s (parentAt s k) + 1))) z ∙ eq-eqb (levelAt s k) 1 (r .level);
+    level = ap (λ (t : Bool). ltb (cond t 0 (levelAt s (parentAt s k))) (levelAt s k)) z ∙ lt-ltb 0 (levelAt s k) (r .level);
     root = ap (λ (t : Bool). eqb (rootAt s k) (cond t k (rootAt s (parentAt s k)))) z ∙ eq-eqb (rootAt s k) k (r .root);
     bits = bits;
   }
@@ -65,7 +65,7 @@ module _ (s : List ℕ) (k : ℕ) (low : 1 ≤ k) (size : 1 ≤ sizeAt s k) (bit
     size = le-leb 1 (sizeAt s k) size;
     end = ap (λ (t : Bool). leb (endOf s k) (cond t (nodeCount s) (endOf s q))) z ∙ le-leb (endOf s k) (endOf s q) (omega (arith, r .end));
     parent = eq-eqb q (parentOf s k) (sym most);
-    level = ap (λ (t : Bool). eqb (levelAt s k) (cond t 1 (levelAt s q + 1))) z ∙ eq-eqb (levelAt s k) (levelAt s q + 1) (r .level);
+    level = ap (λ (t : Bool). ltb (cond t 0 (levelAt s q)) (levelAt s k)) z ∙ lt-ltb (levelAt s q) (levelAt s k) (r .level);
     root = ap (λ (t : Bool). eqb (rootAt s k) (cond t k (rootAt s q))) z ∙ eq-eqb (rootAt s k) (rootAt s q) (r .root);
     bits = bits;
   }

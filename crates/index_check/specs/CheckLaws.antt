@@ -6,8 +6,8 @@ use mathlib.Core.List.{List}
 use Prim.Native.Nat.{ℕ, zero, suc, _+_, _≤_, _<_}
 use native.Mathlib.Decide.{ℕ-discrete, decLt}
 use native.Mathlib.Omega.{arith}
-use lib.Dec.{leb, eqb}
-use borrow.Author.Tests.{leb-true, eqb-true, eq-eqb, ne-eqb, not-true}
+use lib.Dec.{ltb, leb, eqb}
+use borrow.Author.Tests.{leb-true, ltb-true, eqb-true, eq-eqb, ne-eqb, not-true}
 use Rattle.lists.specs.ChoiceLaws.{and-yes}
 use Rattle.lists.specs.Lists.{allTo}
 use Rattle.lists.specs.RangeLaws.{all-at}
@@ -35,17 +35,17 @@ module _ (s : List ℕ) where
       let q : eqb (parentAt s k) 0 ≡ true = eq-eqb (parentAt s k) 0 z in
       leb-true (endOf s k) (nodeCount s) (sym (ap (λ (t : Bool). leb (endOf s k) (cond t (nodeCount s) (endOf s (parentAt s k)))) q) ∙ e)
 
-  pub level-of-root : (k : ℕ) → levelRight s k ≡ true → parentAt s k ≡ 0 → levelAt s k ≡ 1
+  pub level-of-root : (k : ℕ) → levelRight s k ≡ true → parentAt s k ≡ 0 → 1 ≤ levelAt s k
   unfolding levelRight
   level-of-root k e z =
       let q : eqb (parentAt s k) 0 ≡ true = eq-eqb (parentAt s k) 0 z in
-      eqb-true (levelAt s k) 1 (sym (ap (λ (t : Bool). eqb (levelAt s k) (cond t 1 (levelAt s (parentAt s k) + 1))) q) ∙ e)
+      ltb-true 0 (levelAt s k) (sym (ap (λ (t : Bool). ltb (cond t 0 (levelAt s (parentAt s k))) (levelAt s k)) q) ∙ e)
 
-  pub level-of-child : (k : ℕ) → levelRight s k ≡ true → 0 < parentAt s k → levelAt s k ≡ levelAt s (parentAt s k) + 1
+  pub level-of-child : (k : ℕ) → levelRight s k ≡ true → 0 < parentAt s k → levelAt s (parentAt s k) < levelAt s k
   unfolding levelRight
   level-of-child k e h =
       let q : eqb (parentAt s k) 0 ≡ false = ne-eqb (parentAt s k) 0 (λ z. omega arith) in
-      eqb-true (levelAt s k) (levelAt s (parentAt s k) + 1) (sym (ap (λ (t : Bool). eqb (levelAt s k) (cond t 1 (levelAt s (parentAt s k) + 1))) q) ∙ e)
+      ltb-true (levelAt s (parentAt s k)) (levelAt s k) (sym (ap (λ (t : Bool). ltb (cond t 0 (levelAt s (parentAt s k))) (levelAt s k)) q) ∙ e)
 
   pub root-of-root : (k : ℕ) → rootRight s k ≡ true → parentAt s k ≡ 0 → rootAt s k ≡ k
   unfolding rootRight

@@ -36,9 +36,9 @@ endRight s k = leb (endOf s k) (cond (eqb (parentAt s k) 0) (nodeCount s) (endOf
 unfoldable pub parentRight : List ℕ → ℕ → Bool
 parentRight s k = eqb (parentAt s k) (parentOf s k)
 
--- "level is the parent's plus 1 (1 for a root)"
+-- "any level above the parent's, and any from 1 for a root" (change request 2.5)
 unfoldable pub levelRight : List ℕ → ℕ → Bool
-levelRight s k = eqb (levelAt s k) (cond (eqb (parentAt s k) 0) 1 (levelAt s (parentAt s k) + 1))
+levelRight s k = ltb (cond (eqb (parentAt s k) 0) 0 (levelAt s (parentAt s k))) (levelAt s k)
 
 -- "root rank is the parent's, or its own"
 unfoldable pub rootRight : List ℕ → ℕ → Bool

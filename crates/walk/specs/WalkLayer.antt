@@ -9,7 +9,7 @@ use lib.Seq.{sets}
 use lib.Dec.{ltb, eqb}
 use Rattle.lists.specs.Lists.{filter, numbers}
 use Rattle.image.specs.declared.Body.{Body}
-use Rattle.image.specs.Layout.{bodyWords, flat, checked}
+use Rattle.image.specs.Layout.{flat, checked}
 use Rattle.links.specs.LinksLayer.{NextChain}
 use Rattle.paths.specs.Forest.{memb, children, next}
 use Rattle.paths.specs.EmitLayer.{orElse, emit}
@@ -76,11 +76,6 @@ nodeBody num orphan x size parent root level closing =
 abbrev pub rowBody : (class numeral row : List ℕ) (orphan : Bool) (p level parent root n : ℕ) (on : List ℕ) (size : ℕ) → Body
 rowBody class numeral row orphan p level parent root n on size =
     record { numeral = getD numeral p 0; row = getD row p 0; size = size; parent = parent; root = orElse root (n + 1); level = level; closing = classMarked class p on; orphan = orphan }
-
--- what writing the body of the node of rank n + 1 leaves
-pub record Put (b : Body) (n start : ℕ) (index index′ : List ℕ) (r : ℕ) : Type 0 where
-  pub check : r ≡ checked start (bodyWords b)
-  pub written : index′ ≡ sets index (8 + 6 * n) (bodyWords b)
 
 -- what a walk that meets the nodes L leaves, where n nodes were met before and at most cap may be met:
 -- a count above cap says that there are more, and then the marks and the index may hold anything. `start` is the check word before, on and index the marks and the index before

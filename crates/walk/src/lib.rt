@@ -6,7 +6,8 @@ ghost use Prim.Native.Nat.{_+_, _*_, _-_, _≤_, _<_};
 ghost use lib.ListN.{length, getD, set};
 ghost use Rattle.table.specs.TableLayer.{classColumn, childColumn};
 ghost use Rattle.paths.specs.EmitLayer.{orElse};
-ghost use Rattle.walk.specs.WalkLayer.{Walkable, Put, rowsOf, RootsFrom, SiblingsFrom, BelowFrom, placedBody, classMarked, opened, firstBelow};
+ghost use Rattle.image.specs.ImageLayer.{Put};
+ghost use Rattle.walk.specs.WalkLayer.{Walkable, rowsOf, RootsFrom, SiblingsFrom, BelowFrom, placedBody, classMarked, opened, firstBelow};
 
 // How many nodes were met, and the check word of their bodies.
 #[repr(C)]

@@ -2,12 +2,13 @@
 //!
 //! Links and an explicit stack: rows of one numeral are a class, the children of a class are a range of the rows in
 //! sibling order, and a mark per class tells whether it stands on the path. Which numerals are on rings is found for all
-//! at once, by strongly connected components. Nothing is allocated.
+//! at once, by strongly connected components. The lines of a levelled list are sorted as arrays of their width, and each
+//! is compared with the one before. Nothing is allocated.
 
 use flowpewter::sys::{Built, Edited, Listed};
 use flowpewter::{
-    Board, Entry, Row, BODY, CLOSING_BIT, CONTENTS, LEVEL_MASK, MAX_KEPT, MAX_NODES, MAX_ROWS,
-    MAX_UNDONE, ORPHAN_BIT,
+    Board, Entry, Row, BODY, CLOSING_BIT, CONTENTS, LEVEL_MASK, MAX_KEPT, MAX_LINES, MAX_NODES,
+    MAX_ROWS, MAX_UNDONE, ORPHAN_BIT,
 };
 use std::mem::replace;
 
@@ -615,6 +616,101 @@ fn attempt(
     Ok(Built { refusal: 0, nodes, left: left as u32 })
 }
 
+/// The whole build of a levelled list, refusals in order.
+#[inline(never)]
+pub fn build_levelled(cells: &[u32], width: u32, index: &mut [u32], totals: &mut [i64]) -> Built {
+    let built = match width {
+        1 => levelled::<1>(cells, index, totals),
+        2 => levelled::<2>(cells, index, totals),
+        3 => levelled::<3>(cells, index, totals),
+        4 => levelled::<4>(cells, index, totals),
+        5 => levelled::<5>(cells, index, totals),
+        6 => levelled::<6>(cells, index, totals),
+        7 => levelled::<7>(cells, index, totals),
+        8 => levelled::<8>(cells, index, totals),
+        _ => Err(18),
+    };
+    built.unwrap_or_else(|refusal| refuse(refusal, index, totals))
+}
+
+fn levelled<const WIDTH: usize>(
+    cells: &[u32],
+    index: &mut [u32],
+    totals: &mut [i64],
+) -> Result<Built, u32> {
+    let (lines, []) = cells.as_chunks::<WIDTH>() else { return Err(18) };
+    if lines.len() > MAX_LINES {
+        return Err(19);
+    }
+    if index.len() < CONTENTS || totals.is_empty() {
+        return Err(9);
+    }
+    // Each cell one less, so that blanks wrap to the largest number; equal lines need not be told apart.
+    let mut sorted = [[0; WIDTH]; MAX_LINES];
+    let sorted = &mut sorted[..lines.len()];
+    for (keys, line) in sorted.iter_mut().zip(lines) {
+        *keys = line.map(|cell| cell.wrapping_sub(1));
+    }
+    sorted.sort_unstable();
+
+    let (contents, bodies) = index.split_at_mut(CONTENTS);
+    let bodies = bodies.as_chunks_mut().0;
+    let capacity = bodies.len().min(totals.len() - 1);
+    let nodes = beginnings(sorted, &mut bodies[..capacity]).ok_or(9u32)?;
+    let words = bodies[..nodes].as_flattened();
+    let check = words.iter().fold(0u32, |sum, word| sum.wrapping_add(*word));
+    contents.copy_from_slice(&[nodes as u32, 8, 6, check, 0, 0, 0, 0]);
+    totals[..=nodes].fill(0);
+    let blank = sorted.iter().rev().take_while(|keys| **keys == [u32::MAX; WIDTH]).count();
+    Ok(Built { refusal: 0, nodes: nodes as u32, left: blank as u32 })
+}
+
+/// Writes the bodies of sorted lines, whose cells are one less, and answers their number. None when there is no room.
+#[inline(always)]
+fn beginnings<const WIDTH: usize>(
+    sorted: &[[u32; WIDTH]],
+    bodies: &mut [[u32; BODY]],
+) -> Option<usize> {
+    let (mut count, mut root) = (0, 0);
+    // Rank of the node of each column on the line before, 0 where it is blank.
+    let mut ranks = [0; WIDTH];
+    let close = |bodies: &mut [[u32; BODY]], ranks: &[u32], count: usize| {
+        for rank in ranks.iter().filter(|rank| **rank != 0) {
+            bodies[*rank as usize - 1][2] = count as u32 + 1 - rank;
+        }
+    };
+    // The first line shares no cell with this one.
+    let mut before = sorted.first().map_or([0; WIDTH], |keys| keys.map(|key| !key));
+    for (keys, row) in sorted.iter().zip(1..) {
+        let (mut shared, mut parent) = (0, 0);
+        while shared < WIDTH && keys[shared] == before[shared] {
+            if ranks[shared] != 0 {
+                parent = ranks[shared];
+            }
+            shared += 1;
+        }
+        close(bodies, &ranks[shared..], count);
+        for column in shared..WIDTH {
+            ranks[column] = 0;
+            if keys[column] == u32::MAX {
+                continue;
+            }
+            let body = bodies.get_mut(count)?;
+            count += 1;
+            let rank = count as u32;
+            if parent == 0 {
+                root = rank;
+            }
+            *body = [keys[column].wrapping_add(1), row, 1, parent, root, column as u32 + 1];
+            ranks[column] = rank;
+            parent = rank;
+        }
+        before = *keys;
+    }
+    close(bodies, &ranks, count);
+    Some(count)
+}
+
 fn contents(index: &[u32]) -> Option<(usize, &[u32])> {
     if index.len() < CONTENTS || index[1] != 8 || index[2] != 6 || index[0] as usize > MAX_NODES {
         return None;
@@ -677,11 +773,11 @@ pub fn index_check(index: &[u32]) -> bool {
             return false;
         }
         if above == 0 {
-            return end <= n as u64 && body[4] as usize == rank && body[5] & LEVEL_MASK == 1;
+            return end <= n as u64 && body[4] as usize == rank && body[5] & LEVEL_MASK >= 1;
         }
         let parent = &bodies[BODY * (above - 1)..BODY * above];
         end < above as u64 + parent[2] as u64
             && body[4] == parent[4]
-            && body[5] & LEVEL_MASK == (parent[5] & LEVEL_MASK) + 1
+            && body[5] & LEVEL_MASK > parent[5] & LEVEL_MASK
     })
 }

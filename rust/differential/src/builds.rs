@@ -7,7 +7,7 @@ use flowpewter::sys;
 use generate::builds::{large_case, large_island_case, start_of};
 use generate::{
     build_case, build_case_of, holding, island_case, island_case_of, islands, rows, ties,
-    unsound_boards, BuildCase, NavigationCase, Random, SHAPES,
+    unsound_boards, BuildCase, Random, SHAPES,
 };
 use reference::{build_board, Body, Built, Start};
 
@@ -80,16 +80,7 @@ pub fn cases(random: &mut Random, tally: &mut Tally) {
 
 /// Every navigation call from one rank of what a build left.
 fn navigate(random: &mut Random, after: &BuildCase, rank: u32, tally: &mut Tally) {
-    let length = random.between(0, after.index[0] as usize);
-    let case = NavigationCase {
-        index: after.index.clone(),
-        totals: after.totals.clone(),
-        rank,
-        lower: random.limit(),
-        upper: random.limit(),
-        list: random.noise(length),
-    };
-    navigation::compare(&case, tally);
+    navigation::from_rank(random, &after.index, &after.totals, rank, tally);
 }
 
 /// One build of rows with rings, and every navigation call from an entry, from a node below it and from the one that

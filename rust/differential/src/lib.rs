@@ -9,6 +9,7 @@ pub mod baseline;
 pub mod builds;
 pub mod databases;
 pub mod edits;
+pub mod levelled;
 pub mod navigation;
 pub mod tally;
 

@@ -1,6 +1,6 @@
 //! The guide's examples through the library.
 
-use flowpewter::{build_with_code, Board, Refusal};
+use flowpewter::{build_levelled, build_with_code, Board, Refusal};
 use guide::{Engine, Image};
 use reference::{Row, Start};
 
@@ -33,6 +33,14 @@ impl Engine for Library {
         let mut totals = vec![0; flowpewter::totals_len(NODES)];
         let built =
             build_with_code(&board, code, depth, start, &mut index, &mut totals).map_err(number)?;
+        assert_eq!(built.nodes, index[0]);
+        Ok(Image { index, totals, left: built.left })
+    }
+
+    fn build_levelled(&self, cells: &[u32], width: u32) -> Result<Image, u32> {
+        let mut index = vec![0; flowpewter::index_len(NODES)];
+        let mut totals = vec![0; flowpewter::totals_len(NODES)];
+        let built = build_levelled(cells, width, &mut index, &mut totals).map_err(number)?;
         assert_eq!(built.nodes, index[0]);
         Ok(Image { index, totals, left: built.left })
     }

@@ -1,7 +1,8 @@
-//! The two examples of docs/INDEX-FORMAT.md.
+//! The examples of docs/INDEX-FORMAT.md.
 
 use flowpewter::{
-    build_with_code, index_check, index_len, subtree_sum, totals_len, Board, Refusal, Row, Start,
+    build_levelled, build_with_code, index_check, index_len, subtree_sum, totals_len, Board, Built,
+    Refusal, Row, Start,
 };
 
 const PAGE: &str = include_str!("../../../docs/INDEX-FORMAT.md");
@@ -38,4 +39,17 @@ fn index_format() -> Result<(), Refusal> {
 #[test]
 fn index_format_with_an_entry() -> Result<(), Refusal> {
     compare("ring-", 2, 5)
+}
+
+#[test]
+fn index_format_of_a_levelled_list() -> Result<(), Refusal> {
+    let cells: Vec<u32> = block("list-cells").into_iter().map(|cell| cell as u32).collect();
+    let mut index = [0; index_len(6)];
+    let mut totals = [7; totals_len(6)];
+    let built = build_levelled(&cells, 3, &mut index, &mut totals)?;
+    assert_eq!(built, Built { nodes: 6, left: 1 });
+    assert_eq!(index.map(i64::from).to_vec(), block("list-index"));
+    assert_eq!(totals.to_vec(), block("list-totals"));
+    assert!(index_check(&index));
+    Ok(())
 }

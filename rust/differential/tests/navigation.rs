@@ -1,6 +1,7 @@
 //! Navigation and the index check against the reference.
 
-use differential::{navigation, Tally};
+use differential::navigation::{self, LEVELS};
+use differential::Tally;
 use generate::Random;
 
 #[test]
@@ -18,6 +19,7 @@ fn navigation_on_any_slices() {
     tally.expect("subtree_sum", &[0, 13, 14, 15], 1_000);
     tally.expect("path_sum", &[0, 13, 14, 15], 1_000);
     tally.expect_reached(&["navigation from row number 0"], 500);
+    tally.expect_reached(&["descendants with levels left out"], 200);
 }
 
 #[test]
@@ -30,4 +32,5 @@ fn index_checks() {
     println!("{tally}");
     tally.expect("index_check yes", &[0], 5_000);
     tally.expect("index_check no", &[0], 5_000);
+    tally.expect_reached(&LEVELS, 100);
 }

@@ -84,12 +84,12 @@ impl Options<'_> {
     }
 }
 
-/// The number of nodes, and the number of rows that end no node.
+/// The number of nodes, and the number of rows or lines that have none.
 #[derive(Clone, Copy, Debug, PartialEq, Eq, Hash)]
 pub struct Built {
     /// Entries of islands among them.
     pub nodes: u32,
-    /// 0 with [`Orphan::Adopt`] and [`Orphan::Root`].
+    /// Rows that end no node: 0 with [`Orphan::Adopt`] and [`Orphan::Root`]. Of a levelled list, lines wholly blank.
     pub left: u32,
 }
 

@@ -32,7 +32,8 @@ pub const fn totals_len(nodes: usize) -> usize {
 #[derive(Clone, Copy, Debug, PartialEq, Eq, Hash)]
 pub struct Body {
     pub numeral: u32,
-    /// Number of the row that the node's path ends with; 0 for the entry of an island, which is no row.
+    /// Number of the row that the node's path ends with; 0 for the entry of an island, which is no row. Of a levelled
+    /// list, the place in the sorted order of the first line that has the node's beginning.
     pub row: u32,
     /// The node and all nodes below it.
     pub size: u32,
@@ -40,7 +41,8 @@ pub struct Body {
     pub parent: u32,
     /// Rank of the root above the node.
     pub root: u32,
-    /// 1 for a root.
+    /// Above the parent's. On an index built from a board 1 for a root, else the parent's and 1; on one of a levelled
+    /// list the number of the numeral's column.
     pub level: u32,
     /// The path closes a cycle: its last numeral stands on it before.
     pub closing: bool,
@@ -131,7 +133,8 @@ pub fn descendants<'a>(
 #[derive(Clone, Copy, Debug, PartialEq, Eq)]
 pub struct Ancestors<'a> {
     pub ranks: &'a [u32],
-    /// Links to rank 0 aren't counted: on a built index this is the level less 1.
+    /// Links to rank 0 aren't counted: on an index built from a board this is the level less 1, on one of a levelled list
+    /// the number of shorter beginnings that are nodes.
     pub links: usize,
 }
 
@@ -198,7 +201,8 @@ pub fn path_sum(index: &[u32], totals: &[i64], rank: u32) -> Result<i64, Refusal
     Ok(summed.sum)
 }
 
-/// Whether the slice holds an index whose words agree with each other.
+/// Whether the slice holds an index whose words agree with each other, as every index that an accepted build leaves does.
+/// A root may have any level from 1, and any other node any above its parent's.
 ///
 /// ```
 /// use flowpewter::index_check;
@@ -207,6 +211,9 @@ pub fn path_sum(index: &[u32], totals: &[i64], rank: u32) -> Result<i64, Refusal
 /// assert!(index_check(&index));
 /// index[8] = 11;
 /// assert!(!index_check(&index));
+///
+/// // The root of a levelled list may stand in the third column.
+/// assert!(index_check(&[1, 8, 6, 15, 0, 0, 0, 0, 10, 0, 1, 0, 1, 3]));
 /// ```
 pub fn index_check(index: &[u32]) -> bool {
     sys::index_check(index)

@@ -2,6 +2,7 @@
 //!
 //! * [`Board`]: rows with a parent, a numeral, an order and minutes; add, withdraw, remark, undo and redo.
 //! * [`build`]: the forest of a board's paths as an index, and running totals of the minutes.
+//! * [`build_levelled`]: the forest of a levelled list, whose columns are levels, as such an index.
 //! * [`span`], [`descendants`], [`ancestors`], [`siblings`]: navigation by rank.
 //! * [`subtree_sum`], [`path_sum`]: minutes below a node and on the way up from it.
 //! * [`index_check`]: whether a slice from anywhere is an index.
@@ -17,6 +18,7 @@
 mod board;
 mod build;
 mod index;
+mod levelled;
 mod refusal;
 pub mod sys;
 
@@ -28,4 +30,5 @@ pub use index::{
     ancestors, bodies, descendants, index_check, index_len, path_sum, siblings, span, subtree_sum,
     totals_len, Ancestors, Body, BODY, CLOSING_BIT, CONTENTS, LEVEL_MASK, MAX_NODES, ORPHAN_BIT,
 };
+pub use levelled::{build_levelled, MAX_LINES, MAX_WIDTH};
 pub use refusal::{Refusal, REFUSALS};

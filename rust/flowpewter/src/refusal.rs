@@ -4,7 +4,8 @@
 use std::error::Error;
 use std::fmt;
 
-/// Why a call was refused. Of the conditions that hold, the one with the smallest number is given.
+/// Why a call was refused. Of the conditions that hold, the one with the smallest number is given; but a levelled list is
+/// refused with 18 and 19 before 9.
 ///
 /// A refused edit leaves the board as it was, a refused build zeroes both slices, a refused navigation, sum or replay
 /// writes nothing. The names and numbers are those of the C header, `FLOWPEWTER_REFUSED_UNSOUND_BOARD` and so on.
@@ -55,6 +56,10 @@ pub enum Refusal {
     ListTooLong = 16,
     /// Redo finds no undone step.
     NothingUndone = 17,
+    /// A levelled list has a width of 0 or above 8, or its cells are no whole number of lines.
+    NotWholeLines = 18,
+    /// A levelled list has more than 512 lines.
+    TooManyLines = 19,
     /// Replay: the words are no whole number of calls.
     PartOfCall = 101,
     /// Replay: a call is of no known kind.
@@ -64,7 +69,7 @@ pub enum Refusal {
 }
 
 /// All refusals, in the order of their numbers.
-pub const REFUSALS: [Refusal; 20] = [
+pub const REFUSALS: [Refusal; 22] = [
     Refusal::UnsoundBoard,
     Refusal::NumeralZero,
     Refusal::FullBoard,
@@ -82,6 +87,8 @@ pub const REFUSALS: [Refusal; 20] = [
     Refusal::DamagedIndex,
     Refusal::ListTooLong,
     Refusal::NothingUndone,
+    Refusal::NotWholeLines,
+    Refusal::TooManyLines,
     Refusal::PartOfCall,
     Refusal::UnknownCall,
     Refusal::FewRefusalWords,
@@ -127,6 +134,8 @@ impl fmt::Display for Refusal {
             Refusal::DamagedIndex => "the index or the totals contradict themselves",
             Refusal::ListTooLong => "the list found is longer than its slice",
             Refusal::NothingUndone => "there is no undone step to redo",
+            Refusal::NotWholeLines => "the cells are no whole number of lines of 1 to 8 cells",
+            Refusal::TooManyLines => "the list has more than 512 lines",
             Refusal::PartOfCall => "the words are no whole number of calls",
             Refusal::UnknownCall => "a call is of no known kind",
             Refusal::FewRefusalWords => "there are fewer refusal words than calls",

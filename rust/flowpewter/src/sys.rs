@@ -23,7 +23,8 @@ pub struct Replayed {
     pub board: Board,
 }
 
-/// What a build answers: the number of nodes, and the number of rows that end no node.
+/// What a build answers: the number of nodes, and the number of rows that end no node, or of lines of a levelled list
+/// that are wholly blank.
 #[repr(C)]
 #[derive(Clone, Copy, Debug, PartialEq, Eq)]
 pub struct Built {
@@ -95,6 +96,15 @@ extern "C" {
     ) -> Built;
     fn flowpewter_build_default(
         board: Board,
+        index: *mut u32,
+        index_len: usize,
+        totals: *mut i64,
+        totals_len: usize,
+    ) -> Built;
+    fn flowpewter_build_levelled(
+        cells: *const u32,
+        cells_len: usize,
+        width: u32,
         index: *mut u32,
         index_len: usize,
         totals: *mut i64,
@@ -206,6 +216,20 @@ pub fn build_default(board: &Board, index: &mut [u32], totals: &mut [i64]) -> Bu
     unsafe {
         flowpewter_build_default(
             *board,
+            index.as_mut_ptr(),
+            index.len(),
+            totals.as_mut_ptr(),
+            totals.len(),
+        )
+    }
+}
+
+pub fn build_levelled(cells: &[u32], width: u32, index: &mut [u32], totals: &mut [i64]) -> Built {
+    unsafe {
+        flowpewter_build_levelled(
+            cells.as_ptr(),
+            cells.len(),
+            width,
             index.as_mut_ptr(),
             index.len(),
             totals.as_mut_ptr(),

@@ -1,11 +1,26 @@
 //! Built, foreign, damaged and random index slices, totals, and navigation cases.
 
 use crate::builds::{node_count, options, rows, start, start_of, SHAPES};
+use crate::levelled::{fitting_case, LevelledCase, CELLS};
 use crate::random::Random;
-use reference::{ancestors, build, descendants, siblings, BODY, CONTENTS};
+use reference::{ancestors, build, build_levelled, descendants, siblings, BODY, CONTENTS};
 
-/// A built index and its totals, with up to 20 words beyond.
+/// The index of a levelled list of up to 30 lines and its totals, with up to 8 words beyond.
+pub fn built_levelled(random: &mut Random) -> (Vec<u32>, Vec<i64>) {
+    let cells = random.pick(&CELLS);
+    let (count, width) = (random.below(31), random.between(1, 8) as u32);
+    let LevelledCase { cells, mut index, mut totals, .. } =
+        fitting_case(random, cells, count, width);
+    let built = build_levelled(&cells, width, &mut index, &mut totals);
+    assert_eq!(built.refusal, 0);
+    (index, totals)
+}
+
+/// A built index and its totals, with up to 20 words beyond; a quarter are those of levelled lists.
 pub fn built(random: &mut Random) -> (Vec<u32>, Vec<i64>) {
+    if random.chance(1, 4) {
+        return built_levelled(random);
+    }
     loop {
         let shape = random.pick(&SHAPES);
         let size = random.between(1, 40);
@@ -32,8 +47,19 @@ pub fn seal(index: &mut [u32]) {
     index[3] = index[CONTENTS..end].iter().fold(0, |sum: u32, word| sum.wrapping_add(*word));
 }
 
+/// A level for a node that has `height` levels at least below it: the one after the
+/// parent's, one further down, or the last that leaves room.
+fn level(random: &mut Random, above: u32, height: u32) -> u32 {
+    let (next, last) = (above + 1, 0xffff - height);
+    match random.below(8) {
+        0..=3 => next,
+        4 => last,
+        _ => (next + random.below(5) as u32).min(last),
+    }
+}
+
 /// A right index no build made: a random forest of `n` nodes, with any numerals,
-/// row numbers and flags.
+/// row numbers and flags; in half of the cases with levels left out.
 pub fn foreign(random: &mut Random, n: usize) -> Vec<u32> {
     // The chain from a root down to the last node.
     let mut chain: Vec<usize> = Vec::new();
@@ -47,17 +73,22 @@ pub fn foreign(random: &mut Random, n: usize) -> Vec<u32> {
         chain.push(rank);
     }
     let mut sizes = vec![1u32; n + 1];
+    let mut heights = vec![0u32; n + 1];
+    for rank in (1..=n).rev() {
+        let parent = parents[rank];
+        if parent != 0 {
+            sizes[parent] += sizes[rank];
+            heights[parent] = heights[parent].max(heights[rank] + 1);
+        }
+    }
     let mut levels = vec![0u32; n + 1];
     let mut roots = vec![0u32; n + 1];
+    let stepped = random.chance(1, 2);
     for rank in 1..=n {
         let parent = parents[rank];
-        levels[rank] = levels[parent] + 1;
+        let above = levels[parent];
+        levels[rank] = if stepped { above + 1 } else { level(random, above, heights[rank]) };
         roots[rank] = if parent == 0 { rank as u32 } else { roots[parent] };
-    }
-    for rank in (1..=n).rev() {
-        if parents[rank] != 0 {
-            sizes[parents[rank]] += sizes[rank];
-        }
     }
     let mut index = vec![n as u32, 8, 6, 0, 0, 0, 0, 0];
     for rank in 1..=n {
@@ -68,6 +99,17 @@ pub fn foreign(random: &mut Random, n: usize) -> Vec<u32> {
     }
     seal(&mut index);
     index
+}
+
+/// A level at the edge of what is right: 0, the parent's, beside it, or the last, in an
+/// index that has `n` bodies.
+fn edge_level(random: &mut Random, index: &[u32], n: usize, rank: usize) -> u32 {
+    let body = |rank: usize| &index[CONTENTS + BODY * (rank - 1)..][..BODY];
+    let above = match body(rank)[3] as usize {
+        parent if 0 < parent && parent <= n => body(parent)[5] & 0xffff,
+        _ => 0,
+    };
+    random.pick(&[0, above, above.saturating_sub(1), above + 1, above + 2, 0xffff]).min(0xffff)
 }
 
 /// Changes one to three words of an index that has its bodies; the check word is
@@ -83,6 +125,11 @@ pub fn damage(random: &mut Random, index: &mut [u32]) {
             CONTENTS + BODY * random.below(n) + word
         };
         let old = index[at];
+        if at >= CONTENTS && (at - CONTENTS) % BODY == 5 && random.chance(1, 2) {
+            let rank = (at - CONTENTS) / BODY + 1;
+            index[at] = old & !0xffff | edge_level(random, index, n, rank);
+            continue;
+        }
         index[at] = match random.below(8) {
             0 => 0,
             1 => old.wrapping_add(1),

@@ -1,13 +1,14 @@
-//! Deterministic random cases for boards, builds, navigation, the index check
-//! and the listing program.
+//! Deterministic random cases for boards, builds, levelled lists, navigation, the
+//! index check and the listing program.
 //!
 //! Every generator is a plain function of a [`Random`]; the same seed gives the
 //! same cases. The reference is used only to learn how long a slice a case
 //! needs, to obtain built indexes to damage, and to follow the rows that the
 //! entries of a journal lead to.
 //!
-//! [`ties`] tells which siblings of a built index have equal orders, and [`islands`]
-//! which entries were made for rings, so that tests can count what their cases reach.
+//! [`ties`] tells which siblings of a built index have equal orders, [`islands`] which
+//! entries were made for rings, and [`levelled`] where lists have blanks and equal
+//! lines, so that tests can count what their cases reach.
 #![forbid(unsafe_code)]
 
 pub mod boards;
@@ -15,6 +16,7 @@ pub mod builds;
 pub mod histories;
 pub mod indexes;
 pub mod islands;
+pub mod levelled;
 pub mod listings;
 pub mod random;
 mod rings;
@@ -26,5 +28,6 @@ pub use builds::{
 };
 pub use histories::{history, history_on, History, HISTORIES};
 pub use indexes::{index, navigation_case, totals, NavigationCase};
+pub use levelled::{levelled_case, LevelledCase};
 pub use listings::listing;
 pub use random::Random;

@@ -25,16 +25,19 @@ fn check_in_one_pass(index: &[u32]) -> bool {
         }
         let body = &words[6 * (rank - 1)..6 * rank];
         let end = rank as u64 + body[2] as u64 - 1;
-        let (parent, last, root) = match open.last() {
-            None => (0, n as u64, rank as u32),
-            Some((parent, last)) => (*parent, *last, words[6 * (parent - 1) + 4]),
+        let (parent, last, root, above) = match open.last() {
+            None => (0, n as u64, rank as u32, 0),
+            Some((parent, last)) => {
+                let words = &words[6 * (parent - 1)..6 * parent];
+                (*parent, *last, words[4], words[5] & 0xffff)
+            }
         };
-        let level = open.len() as u32 + 1;
         if body[2] == 0
             || end > last
             || body[3] != parent as u32
             || body[4] != root
-            || body[5] & 0x3fff_ffff != level
+            || body[5] & 0x3fff_0000 != 0
+            || body[5] & 0xffff <= above
         {
             return false;
         }
@@ -182,7 +185,7 @@ fn the_same_seed_gives_the_same_cases() {
             text += &format!("{:?}", history(&mut random, kind));
         }
         text += &format!("{:?} {:?}", build_case(&mut random), navigation_case(&mut random));
-        text += &format!("{:?}", listing(&mut random));
+        text += &format!("{:?} {:?}", levelled_case(&mut random), listing(&mut random));
         text
     };
     assert!(text(7) == text(7));

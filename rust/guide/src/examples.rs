@@ -2,7 +2,10 @@
 //! what the engine gives, row by row and in the printed order; "-" is an empty
 //! field.
 
-use crate::tables::{self, id, numeral, t_demo, t_demo_err, unordered};
+use crate::levelled::LevelledView;
+use crate::tables::{
+    self, cell_name, date_name, dates, id, numeral, t_demo, t_demo_err, t_demo_lvl, unordered,
+};
 use crate::view::{code, lines, Pick, View};
 use crate::Engine;
 use reference::{Row, Start};
@@ -299,6 +302,93 @@ pub fn s3_1_cycle_breakup(engine: &dyn Engine) {
          5 0 H2
          6 1 F5",
     );
+}
+
+// 3.4 HIERARCHY_LEVELLED
+
+/// All columns of T_DEMO_LVL are levels, attributes too.
+///
+/// The guide orders by the four level columns, NULLS LAST, and says nothing of the attributes; the
+/// papers order by all columns. The lines of this source come in the same order by both.
+pub fn s3_4_all_columns(engine: &dyn Engine) {
+    let view = LevelledView::new(engine, t_demo_lvl(&[]), cell_name);
+    view.check(
+        &view.ranks(),
+        "RANK TREE_SIZE PARENT_RANK LEVEL PARENT_ID NODE_ID LEVEL_NAME L1 L2 A2 L3 L4 A4
+         1 14 0 1 - L1 LEVEL_1 L1 - - - - -
+         2 8 1 2 L1 M1 LEVEL_2 L1 M1 - - - -
+         3 4 2 3 M1 1 ATTR_2 L1 M1 1 - - -
+         4 3 3 4 1 N1 LEVEL_3 L1 M1 1 N1 - -
+         5 2 4 5 N1 O1 LEVEL_4 L1 M1 1 N1 O1 -
+         6 1 5 6 O1 10 ATTR_4 L1 M1 1 N1 O1 10
+         7 3 2 3 M1 2 ATTR_2 L1 M1 2 - - -
+         8 2 7 5 2 O2 LEVEL_4 L1 M1 2 - O2 -
+         9 1 8 6 O2 20 ATTR_4 L1 M1 2 - O2 20
+         10 2 1 2 L1 M2 LEVEL_2 L1 M2 - - - -
+         11 1 10 3 M2 3 ATTR_2 L1 M2 3 - - -
+         12 3 1 4 L1 N2 LEVEL_3 L1 - - N2 - -
+         13 2 12 5 N2 O3 LEVEL_4 L1 - - N2 O3 -
+         14 1 13 6 O3 30 ATTR_4 L1 - - N2 O3 30",
+    );
+    assert_eq!(view.image.left, 0);
+}
+
+/// LEVELS (level_1, level_2, level_3, level_4): the caller leaves the attributes out, and finds
+/// them again by the row number.
+///
+/// The guide prints nothing under L1 in the first row, a misprint: the table before has L1 there,
+/// and so have all other rows of this one.
+pub fn s3_4_level_columns(engine: &dyn Engine) {
+    let levels = ["LEVEL_1", "LEVEL_2", "LEVEL_3", "LEVEL_4"];
+    let view = LevelledView::new(engine, t_demo_lvl(&levels), cell_name);
+    view.check(
+        &view.ranks(),
+        "RANK TREE_SIZE PARENT_RANK LEVEL PARENT_ID NODE_ID LEVEL_NAME L1 L2 A2 L3 L4 A4
+         1 8 0 1 - L1 LEVEL_1 L1 - - - - -
+         2 4 1 2 L1 M1 LEVEL_2 L1 M1 1 - - -
+         3 2 2 3 M1 N1 LEVEL_3 L1 M1 1 N1 - -
+         4 1 3 4 N1 O1 LEVEL_4 L1 M1 1 N1 O1 10
+         5 1 2 4 M1 O2 LEVEL_4 L1 M1 2 - O2 20
+         6 1 1 2 L1 M2 LEVEL_2 L1 M2 3 - - -
+         7 2 1 3 L1 N2 LEVEL_3 L1 - - N2 - -
+         8 1 7 4 N2 O3 LEVEL_4 L1 - - N2 O3 30",
+    );
+    assert_eq!(view.image.left, 0);
+}
+
+// 4.1 and 4.2 Attributes
+
+/// The sentences on levels and ids of a levelled hierarchy, over T_DEMO_LVL with LEVEL_1 blank:
+/// 1. "it is possible that root nodes are not on level 1 and direct children may be more than one
+///    level below their parents."
+/// 2. HIERARCHY_LEVEL "is strictly larger than the level of the parent node."
+/// 3. "The value of the NODE_ID column is taken from the level column corresponding to the highest
+///    level where the value is not NULL. This value is not necessarily unique in the hierarchy."
+pub fn s4_1_levels_of_columns(engine: &dyn Engine) {
+    let mut source = t_demo_lvl(&["LEVEL_1", "LEVEL_2", "LEVEL_3", "LEVEL_4"]);
+    for line in &mut source.lines {
+        line[0] = 0;
+    }
+    // O3 once more, below N1.
+    source.lines.push(vec![0, numeral("M1"), 1, numeral("N1"), numeral("O3"), 40]);
+    let view = LevelledView::new(engine, source, cell_name);
+    view.check(
+        &view.ranks(),
+        "RANK TREE_SIZE PARENT_RANK ROOT_RANK LEVEL IS_CYCLE IS_ORPHAN PARENT_ID NODE_ID A4
+         1 5 0 1 2 0 0 - M1 -
+         2 3 1 1 3 0 0 M1 N1 -
+         3 1 2 1 4 0 0 N1 O1 10
+         4 1 2 1 4 0 0 N1 O3 40
+         5 1 1 1 4 0 0 M1 O2 20
+         6 1 0 6 2 0 0 - M2 -
+         7 2 0 7 3 0 0 - N2 -
+         8 1 7 7 4 0 0 N2 O3 30",
+    );
+    let bodies = view.image.bodies();
+    let above = |parent: u32| if parent == 0 { 0 } else { view.image.body(parent).level };
+    assert!(bodies.iter().all(|body| body.level > above(body.parent)));
+    assert!(bodies.iter().any(|body| body.parent == 0 && body.level > 1));
+    assert!(bodies.iter().any(|body| body.parent != 0 && body.level > above(body.parent) + 1));
 }
 
 // 5.1 Hierarchy model
@@ -1153,6 +1243,37 @@ pub fn s8_9_synthetic_data(engine: &dyn Engine) {
     );
 }
 
+// 8.10 Dates
+
+/// The first ten rows of a hierarchy of dates. They are of 2016, whose 366 lines are a list; the
+/// guide's source has those of 2017 too, and so many are refused.
+///
+/// Months are text and come by the alphabet, as the guide prints them; it orders by the day alone.
+pub fn s8_10_dates(engine: &dyn Engine) {
+    let source = dates(&[2_016, 2_017]);
+    assert_eq!(source.lines.len(), 731);
+    assert_eq!(engine.build_levelled(&source.cells(), source.width()), Err(19));
+
+    let source = dates(&[2_016]);
+    assert_eq!(source.lines.len(), 366);
+    let view = LevelledView::new(engine, source, date_name);
+    assert_eq!(view.image.nodes(), 1 + 4 + 12 + 366);
+    view.check(
+        &view.ranks()[..10],
+        "RANK LEVEL NODE_ID PARENT_ID LEVEL_NAME YEAR QUARTER MONTH DAY
+         1 1 2016 - YEAR 2016 - - -
+         2 2 Q1 2016 QUARTER 2016 Q1 - -
+         3 3 FEBRUARY Q1 MONTH 2016 Q1 FEBRUARY -
+         4 4 1 FEBRUARY DAY 2016 Q1 FEBRUARY 1
+         5 4 2 FEBRUARY DAY 2016 Q1 FEBRUARY 2
+         6 4 3 FEBRUARY DAY 2016 Q1 FEBRUARY 3
+         7 4 4 FEBRUARY DAY 2016 Q1 FEBRUARY 4
+         8 4 5 FEBRUARY DAY 2016 Q1 FEBRUARY 5
+         9 4 6 FEBRUARY DAY 2016 Q1 FEBRUARY 6
+         10 4 7 FEBRUARY DAY 2016 Q1 FEBRUARY 7",
+    );
+}
+
 // 8.11 Drill-down
 
 /// The roots, then a drill-down on rank 1.
@@ -1242,4 +1363,18 @@ pub fn deviation_ties(engine: &dyn Engine) {
     let view = View::new(engine, rows, code(2, 0, 0), None, Start::Numerals(&start));
     let adopter = view.image.body(view.rank_of("A1")).parent;
     assert_eq!(view.id_of(adopter), "B2");
+}
+
+/// Lines that the guide doesn't mention: equal ones have the same nodes, wholly NULL ones none, and
+/// both count in the row number. A list of more than eight columns is refused.
+pub fn deviation_levelled_lines(engine: &dyn Engine) {
+    let mut source = t_demo_lvl(&["LEVEL_1", "LEVEL_2", "LEVEL_3", "LEVEL_4"]);
+    source.lines.insert(0, vec![0; 6]);
+    source.lines = [source.lines.clone(), source.lines].concat();
+    let view = LevelledView::new(engine, source, cell_name);
+    assert_eq!((view.image.nodes(), view.image.left), (8, 2));
+    let lines: Vec<u32> = view.image.bodies().iter().map(|body| body.row).collect();
+    assert_eq!(lines, [1, 1, 1, 1, 3, 5, 7, 7]);
+
+    assert_eq!(engine.build_levelled(&[1; 9], 9), Err(18));
 }

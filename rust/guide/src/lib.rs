@@ -13,12 +13,17 @@
 //! * Start conditions: the guide takes any SQL condition; the paper takes parent
 //!   0 or a list of numerals. A condition on another column is expressed by
 //!   giving the rows that meet it parent 0.
+//! * Levelled sources: the guide takes columns of many types, any number of them, and a
+//!   sibling order; the papers take numbers, 0 for NULL, at most 8 columns and 512 lines,
+//!   in one order (`s3_4_all_columns`, `s8_10_dates`). Lines that are equal or wholly NULL
+//!   the guide doesn't mention (`deviation_levelled_lines`).
 //! * Sources: the guide also navigates a complete subtree cut out of a
 //!   hierarchy; here the whole hierarchy is navigated and the result restricted
 //!   to the span of the subtree's root.
 #![forbid(unsafe_code)]
 
 pub mod examples;
+pub mod levelled;
 pub mod tables;
 mod view;
 
@@ -35,6 +40,10 @@ pub trait Engine {
         depth: Option<i32>,
         start: Start,
     ) -> Result<Image, u32>;
+
+    /// Builds over lines of `width` cells into slices of the engine's choice, which
+    /// hold at least 1,000 nodes.
+    fn build_levelled(&self, cells: &[u32], width: u32) -> Result<Image, u32>;
 
     /// Ranks of the node's span within the limits.
     fn descendants(
@@ -70,7 +79,8 @@ pub trait Engine {
     fn index_check(&self, index: &[u32]) -> bool;
 }
 
-/// What a build left: the two slices and the number of rows that end no node.
+/// What a build left: the two slices and the number of rows that end no node, or of lines
+/// wholly blank.
 #[derive(Clone, Debug, PartialEq, Eq)]
 pub struct Image {
     pub index: Vec<u32>,
@@ -131,6 +141,9 @@ list_examples! {
     s3_1_multiparent
     s3_1_cycle_error
     s3_1_cycle_breakup
+    s3_4_all_columns
+    s3_4_level_columns
+    s4_1_levels_of_columns
     s5_1_h_demo
     s5_1_subtree_b2
     s5_2_distance_window
@@ -174,7 +187,9 @@ list_examples! {
     s8_7_connectivity
     s8_8_nearest_common_ancestor
     s8_9_synthetic_data
+    s8_10_dates
     s8_11_drill_down
     s8_12_graphviz
     deviation_ties
+    deviation_levelled_lines
 }

@@ -5,7 +5,10 @@
 //!
 //! `SIBLING ORDER BY ord` puts ord in the order. By `SIBLING ORDER BY node_id`, and
 //! without such a clause, all rows have the same order and the numeral decides.
+//!
+//! In a levelled source a number stays as it is, and NULL is 0.
 
+use crate::levelled::Source;
 use reference::Row;
 
 /// The numeral of a node id; of "-" 0.
@@ -59,6 +62,14 @@ pub const T_DEMO_ERR: [(&str, &str, u32); 18] = [
     ("G3", "H2", 3),
     ("H2", "F5", 3),
     ("E4", "F6", 0),
+];
+
+/// T_DEMO_LVL: level_1, level_2, attr_2, level_3, level_4, attr_4.
+pub const T_DEMO_LVL: [[&str; 6]; 4] = [
+    ["L1", "M1", "1", "N1", "O1", "10"],
+    ["L1", "M1", "2", "-", "O2", "20"],
+    ["L1", "M2", "3", "-", "-", "-"],
+    ["L1", "-", "-", "N2", "O3", "30"],
 ];
 
 /// H_DEMO_FACTS: node, amount_dec_fact in hundredths.
@@ -133,4 +144,88 @@ pub fn synthetic() -> Vec<Row> {
     let rows =
         (1..=100).map(|node| Row::new(if node <= 4 { 0 } else { (node - 1) / 4 }, node, 0, 0));
     unordered(rows.collect())
+}
+
+/// The cell of a number or an id; of "-" 0.
+fn cell(text: &str) -> u32 {
+    text.parse().unwrap_or_else(|_| numeral(text))
+}
+
+/// The number or the id of a cell; of 0 "-". Ids are above 255.
+pub fn cell_name(cell: u32) -> String {
+    match cell {
+        1..=255 => cell.to_string(),
+        _ => id(cell),
+    }
+}
+
+/// T_DEMO_LVL, last line first, with the level columns that are named; none means all.
+pub fn t_demo_lvl(levels: &[&str]) -> Source {
+    let names = ["LEVEL_1", "LEVEL_2", "ATTR_2", "LEVEL_3", "LEVEL_4", "ATTR_4"];
+    let lines = T_DEMO_LVL.iter().rev().map(|line| line.map(cell).to_vec());
+    Source {
+        columns: names.map(|name| (name, levels.is_empty() || levels.contains(&name))).to_vec(),
+        lines: lines.collect(),
+    }
+}
+
+/// Names of months, which sort as text.
+const MONTHS: [&str; 12] = [
+    "APRIL",
+    "AUGUST",
+    "DECEMBER",
+    "FEBRUARY",
+    "JANUARY",
+    "JULY",
+    "JUNE",
+    "MARCH",
+    "MAY",
+    "NOVEMBER",
+    "OCTOBER",
+    "SEPTEMBER",
+];
+
+/// The cell of the first of these names. Years and days are their own cells, quarters are ids.
+const FIRST_MONTH: u32 = 101;
+
+/// The months of a year in calendar order, with their days in 2017.
+const CALENDAR: [(&str, u32); 12] = [
+    ("JANUARY", 31),
+    ("FEBRUARY", 28),
+    ("MARCH", 31),
+    ("APRIL", 30),
+    ("MAY", 31),
+    ("JUNE", 30),
+    ("JULY", 31),
+    ("AUGUST", 31),
+    ("SEPTEMBER", 30),
+    ("OCTOBER", 31),
+    ("NOVEMBER", 30),
+    ("DECEMBER", 31),
+];
+
+/// The source of section 8.10: the days of the years, 2016 or 2017, in calendar order.
+pub fn dates(years: &[u32]) -> Source {
+    let mut lines = Vec::new();
+    for &year in years {
+        for (place, (month, days)) in CALENDAR.into_iter().enumerate() {
+            let quarter = numeral(&format!("Q{}", 1 + place / 3));
+            let name = MONTHS.iter().position(|name| *name == month).expect("a month");
+            let leap = (year == 2016 && month == "FEBRUARY") as u32;
+            for day in 1..=days + leap {
+                lines.push(vec![year, quarter, FIRST_MONTH + name as u32, day]);
+            }
+        }
+    }
+    let columns = ["YEAR", "QUARTER", "MONTH", "DAY"].map(|name| (name, true)).to_vec();
+    Source { columns, lines }
+}
+
+/// The name of a cell of [`dates`].
+pub fn date_name(cell: u32) -> String {
+    match cell {
+        FIRST_MONTH..=112 => MONTHS[(cell - FIRST_MONTH) as usize].to_string(),
+        1..=2_017 => cell.to_string(),
+        _ => id(cell),
+    }
 }

@@ -38,6 +38,15 @@ impl Engine for Reference {
         Ok(Image { index, totals, left: built.left })
     }
 
+    fn build_levelled(&self, cells: &[u32], width: u32) -> Result<Image, u32> {
+        let mut index = vec![0; 8 + 6 * NODES];
+        let mut totals = vec![0; NODES + 1];
+        let built = build_levelled(cells, width, &mut index, &mut totals);
+        of(built.refusal)?;
+        assert_eq!(built.nodes, index[0]);
+        Ok(Image { index, totals, left: built.left })
+    }
+
     fn descendants(
         &self,
         index: &[u32],
@@ -108,7 +117,7 @@ fn every_example_is_run() {
         assert!(list.lines().any(|line| line.trim() == name), "{name} is not run");
         count += 1;
     }
-    assert_eq!(count, 58);
+    assert_eq!(count, 63);
 }
 
 /// What the page's table of ties says of an example, the first two columns: how many neighbouring

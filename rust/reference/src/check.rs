@@ -4,7 +4,7 @@ use crate::forest::Body;
 use crate::navigation::node_count;
 use crate::{BODY, CONTENTS};
 
-/// Whether the slice holds an index of a forest in preorder.
+/// Whether the slice holds an index of a forest in preorder; one check for all builds.
 pub fn index_check(index: &[u32]) -> bool {
     let n = match node_count(index) {
         None => return false,
@@ -45,12 +45,13 @@ fn body_check(index: &[u32], n: usize, rank: usize) -> bool {
         return false;
     }
 
-    let (last, level, root) = if parent == 0 {
-        (n as u64, 1, rank as u32)
+    // "Any level above the parent's, and any from 1 for a root."
+    let (last, level_fits, root) = if parent == 0 {
+        (n as u64, body.level >= 1, rank as u32)
     } else {
         let above = Body::read(index, parent);
-        (end(index, parent), above.level + 1, above.root)
+        (end(index, parent), body.level > above.level, above.root)
     };
     let bits = index[CONTENTS + BODY * (rank - 1) + 5] / (1 << 16) % (1 << 14);
-    end(index, rank) <= last && body.level == level && body.root == root && bits == 0
+    end(index, rank) <= last && level_fits && body.root == root && bits == 0
 }

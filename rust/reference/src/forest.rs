@@ -100,7 +100,7 @@ pub struct Built {
     pub refusal: u32,
     /// Node count n.
     pub nodes: u32,
-    /// Rows that end no node.
+    /// Rows that end no node; of a levelled list the lines wholly blank.
     pub left: u32,
 }
 
@@ -451,6 +451,11 @@ pub fn bodies(rows: &[Row], nodes: &[Node]) -> Vec<Body> {
     list
 }
 
+/// Whether `n` nodes fit slices of these lengths, so that refusal 9 doesn't apply.
+pub(crate) fn image_fits(n: usize, index_words: usize, total_words: usize) -> bool {
+    n <= MAX_NODES && index_words >= CONTENTS + BODY * n && total_words >= n + 1
+}
+
 /// Refusals 6 to 12 in order, else the bodies and the number of rows that end no node.
 fn attempt(
     rows: &[Row],
@@ -467,8 +472,7 @@ fn attempt(
     if depth.is_some() && options.orphan != IGNORE {
         return Err(7);
     }
-    let fits =
-        |n: usize| n <= MAX_NODES && index_words >= CONTENTS + BODY * n && total_words >= n + 1;
+    let fits = |n: usize| image_fits(n, index_words, total_words);
     let forest = forest(rows, options.orphan, depth, start, &fits)?;
 
     if options.cycle == 1 && forest.nodes.iter().any(|node| node.closing) {
@@ -525,23 +529,36 @@ pub fn build(
     match attempt(rows, code, depth, start, index.len(), totals.len()) {
         Err(refusal) => refuse(refusal, index, totals),
         Ok((bodies, left)) => {
-            let n = bodies.len();
-            let mut check: u64 = 0;
-            let mut total: i64 = 0;
-            totals[0] = 0;
-            for (place, body) in bodies.iter().enumerate() {
-                for (word, value) in body.words().iter().enumerate() {
-                    index[CONTENTS + BODY * place + word] = *value;
-                    check += *value as u64;
-                }
-                total += minutes(rows, body);
-                totals[place + 1] = total;
-            }
-            let contents = [n as u32, 8, 6, (check % (1 << 32)) as u32, 0, 0, 0, 0];
-            index[..CONTENTS].copy_from_slice(&contents);
-            Built { refusal: 0, nodes: n as u32, left }
+            let minutes: Vec<i64> = bodies.iter().map(|body| minutes(rows, body)).collect();
+            accept(&bodies, &minutes, left, index, totals)
         }
     }
+}
+
+/// Writes the image of `bodies` and the running totals of `minutes`, of which each body has one.
+/// They must fit.
+pub(crate) fn accept(
+    bodies: &[Body],
+    minutes: &[i64],
+    left: u32,
+    index: &mut [u32],
+    totals: &mut [i64],
+) -> Built {
+    let n = bodies.len();
+    let mut check: u64 = 0;
+    let mut total: i64 = 0;
+    totals[0] = 0;
+    for (place, body) in bodies.iter().enumerate() {
+        for (word, value) in body.words().iter().enumerate() {
+            index[CONTENTS + BODY * place + word] = *value;
+            check += *value as u64;
+        }
+        total += minutes[place];
+        totals[place + 1] = total;
+    }
+    let contents = [n as u32, 8, 6, (check % (1 << 32)) as u32, 0, 0, 0, 0];
+    index[..CONTENTS].copy_from_slice(&contents);
+    Built { refusal: 0, nodes: n as u32, left }
 }
 
 /// Builds from a board: refusal 1, then as [`build`].
@@ -559,7 +576,8 @@ pub fn build_board(
     build(board.held(), code, depth, start, index, totals)
 }
 
-fn refuse(refusal: u32, index: &mut [u32], totals: &mut [i64]) -> Built {
+/// A refused build: both slices and both counts are zeroed.
+pub(crate) fn refuse(refusal: u32, index: &mut [u32], totals: &mut [i64]) -> Built {
     index.fill(0);
     totals.fill(0);
     Built { refusal, nodes: 0, left: 0 }

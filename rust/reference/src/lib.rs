@@ -4,6 +4,7 @@
 //!   undone ones.
 //! * [`board`]: the board record, its soundness and the edits on it.
 //! * [`forest`]: paths, nodes, their order and the build of the index image.
+//! * [`levelled`]: beginnings of the lines of a levelled list, and the build from them.
 //! * [`navigation`]: span, descendants, ancestors, siblings and sums on any slices.
 //! * [`check`]: the index check.
 //! * [`listing`]: the listing program as a function from input to output.
@@ -16,6 +17,7 @@
 pub mod board;
 pub mod check;
 pub mod forest;
+pub mod levelled;
 pub mod listing;
 pub mod machine;
 pub mod navigation;
@@ -23,6 +25,7 @@ pub mod navigation;
 pub use board::{Board, Edited, Entry, Row};
 pub use check::index_check;
 pub use forest::{build, build_board, Body, Built, Forest, IslandEntry, Node, Options, Start};
+pub use levelled::{build_levelled, Levelled, LevelledNode};
 pub use listing::numerals;
 pub use machine::{Call, Machine};
 pub use navigation::{
@@ -37,6 +40,10 @@ pub const MAX_KEPT: usize = 256;
 pub const MAX_UNDONE: usize = 256;
 /// Places for journal entries on a board.
 pub const JOURNAL_PLACES: usize = MAX_KEPT + MAX_UNDONE;
+/// Most cells in a line of a levelled list.
+pub const MAX_WIDTH: u32 = 8;
+/// Most lines of a levelled list.
+pub const MAX_LINES: usize = 512;
 /// Most nodes an index may hold.
 pub const MAX_NODES: usize = 65_535;
 /// Words in the table of contents.

@@ -18,7 +18,8 @@ pub struct Listed {
     pub length: u32,
 }
 
-/// A list of ancestors, and the parent links followed (those to rank 0 not counted).
+/// A list of ancestors, and the parent links followed (those to rank 0 not counted): level − 1 on
+/// an index built from rows, the number of shorter beginnings that are nodes on a levelled one.
 #[derive(Clone, Copy, Debug, PartialEq, Eq)]
 pub struct Climbed {
     pub refusal: u32,
@@ -96,7 +97,8 @@ fn climb(index: &[u32], rank: u32) -> Result<Vec<u32>, u32> {
     }
 }
 
-/// The ranks of `candidates` whose distance from `rank` is within the limits.
+/// The ranks of `candidates` whose distance from `rank`, their level less its own, is within the
+/// limits. On a levelled index that counts columns and not links.
 fn within(index: &[u32], rank: u32, lower: i32, upper: i32, candidates: &[u32]) -> Vec<u32> {
     let own = Body::read(index, rank as usize).level as i64;
     let mut list = Vec::new();

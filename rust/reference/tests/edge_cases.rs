@@ -1563,9 +1563,20 @@ fn check_of_each_condition() {
     assert!(!damaged(5, 3, 1));
     assert!(!damaged(5, 3, 5));
     assert!(!damaged(2, 3, u32::MAX));
-    // Levels, roots, bits 16 to 29.
+    // Levels: any from 1 for a root and any above the parent's, as long as the children's are above.
     assert!(!damaged(1, 5, 0));
-    assert!(!damaged(4, 5, 4));
+    assert!(!damaged(1, 5, 2));
+    assert!(!damaged(5, 5, 0));
+    assert!(damaged(5, 5, 2));
+    assert!(damaged(5, 5, 0xffff));
+    assert!(!damaged(3, 5, 1));
+    assert!(!damaged(3, 5, 3));
+    assert!(!damaged(4, 5, 0));
+    assert!(!damaged(4, 5, 1));
+    assert!(!damaged(4, 5, 2));
+    assert!(damaged(4, 5, 4));
+    assert!(damaged(4, 5, 0xffff));
+    // Roots, bits 16 to 29.
     assert!(!damaged(4, 4, 3));
     assert!(!damaged(5, 4, 1));
     for bit in 16..30 {
@@ -1578,7 +1589,13 @@ fn check_of_the_deepest_chain() {
     let n = 65_535;
     let mut bodies: Vec<(u32, u32, u32)> = (1..=n).map(|k| (n + 1 - k, k - 1, k)).collect();
     assert!(index_check(&index_of(&bodies)));
-    bodies[65_534].2 = 0;
+    for level in [0, n - 1] {
+        bodies[65_534].2 = level;
+        assert!(!index_check(&index_of(&bodies)));
+    }
+    // There is no level left above 65,535.
+    bodies[65_534].2 = n;
+    bodies[65_533].2 = n;
     assert!(!index_check(&index_of(&bodies)));
 }
 

@@ -35,9 +35,6 @@ returns c = simp (level (c .before .before .before), eq-eqb _ 0 (sym (parent (c 
 body-of-requires-2 : tie.Need-body-of-requires-2
 body-of-requires-2 c κs = omega (arith, parent (c .before .before), c .if1 .left, c .before .before .before .before .pre .below, c .before .before .before .before .pre .held)
 
-add-result : tie.Need-add-result
-add-result c = omega (arith, above (c .before))
-
 returns-2 : tie.Need-returns-2
 unfolding levelRight
 returns-2 c =
@@ -47,4 +44,4 @@ returns-2 c =
 pub level-right-spec : {M : Type 1} → statement M
 level-right-spec =
     tie.close
-    (tie.spec body-of-requires cast-parent returns body-of-requires-2 add-result returns-2)
+    (tie.spec body-of-requires cast-parent returns body-of-requires-2 returns-2)

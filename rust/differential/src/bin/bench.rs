@@ -7,7 +7,10 @@
 use differential::baseline;
 use differential::databases::DATABASES;
 use flowpewter::sys::{self, Edited};
-use flowpewter::{index_len, totals_len, Board, Entry, Row, JOURNAL_PLACES, MAX_NODES};
+use flowpewter::{
+    index_len, totals_len, Board, Entry, Row, JOURNAL_PLACES, MAX_LINES, MAX_NODES, MAX_WIDTH,
+};
+use generate::Random;
 use std::hint::black_box;
 use std::mem::size_of;
 use std::time::Instant;
@@ -145,6 +148,78 @@ fn builds(job: &str, rows: &[Row], code: u32, rounds: u32) -> f64 {
     );
     print(job, &format!("{} rows, {} nodes", rows.len(), built.nodes), times);
     times.0 / 1_000.0
+}
+
+const WIDTH: usize = MAX_WIDTH as usize;
+
+/// The largest levelled list, of drawn cells.
+fn list(cell: impl Fn(&mut Random) -> u32) -> Vec<u32> {
+    let mut random = Random::new(1);
+    (0..WIDTH * MAX_LINES).map(|_| cell(&mut random)).collect()
+}
+
+fn any_cell(random: &mut Random) -> u32 {
+    random.draw() as u32
+}
+
+/// 1 to 9, a tenth blank.
+fn few(random: &mut Random) -> u32 {
+    if random.chance(1, 10) {
+        0
+    } else {
+        random.between(1, 9) as u32
+    }
+}
+
+/// The lines of a list in sorted order.
+fn sorted(cells: &[u32]) -> Vec<u32> {
+    let mut lines: Vec<&[u32]> = cells.chunks(WIDTH).collect();
+    lines.sort_by_key(|line| line.iter().map(|cell| cell.wrapping_sub(1)).collect::<Vec<_>>());
+    lines.concat()
+}
+
+fn reversed(cells: &[u32]) -> Vec<u32> {
+    cells.chunks(WIDTH).rev().flatten().copied().collect()
+}
+
+/// A maker's sheet: two parts to each assembly on every level but the first two, its lines in any order.
+fn sheet() -> Vec<u32> {
+    let line = |part: u32| [9, 8, 7, 6, 5, 3, 1, 0].map(|halved| 1 + (part >> halved));
+    let mut lines: Vec<[u32; WIDTH]> = (0..MAX_LINES as u32).map(line).collect();
+    Random::new(1).shuffle(&mut lines);
+    lines.concat()
+}
+
+fn levelled(job: &str, cells: &[u32]) {
+    let nodes = cells.len();
+    let (mut index, mut totals) = (vec![0; index_len(nodes)], vec![0; totals_len(nodes)]);
+    let (mut other, mut others) = (index.clone(), totals.clone());
+    let built = sys::build_levelled(cells, MAX_WIDTH, &mut index, &mut totals);
+    let expected = baseline::build_levelled(cells, MAX_WIDTH, &mut other, &mut others);
+    assert_eq!(built, expected);
+    assert!(index == other && totals == others);
+    let times = race(
+        20,
+        || {
+            black_box(sys::build_levelled(black_box(cells), MAX_WIDTH, &mut index, &mut totals));
+        },
+        || {
+            let cells = black_box(cells);
+            black_box(baseline::build_levelled(cells, MAX_WIDTH, &mut other, &mut others));
+        },
+    );
+    let lines = cells.len() / WIDTH;
+    print(job, &format!("{lines} lines of {WIDTH} cells, {} nodes", built.nodes), times);
+}
+
+fn levelled_lists() {
+    let few = list(few);
+    levelled("levelled list, any cells", &list(any_cell));
+    levelled("levelled list, cells of 1 to 9, a tenth blank", &few);
+    levelled("levelled list, the same sorted", &sorted(&few));
+    levelled("levelled list, the same reversed", &reversed(&sorted(&few)));
+    levelled("levelled list, all lines equal", &few[..WIDTH].repeat(MAX_LINES));
+    levelled("levelled list, a maker's sheet", &sheet());
 }
 
 /// Times in nanoseconds of a call by the C convention that does nothing, and of one copy of the board.
@@ -329,6 +404,7 @@ fn main() {
     builds("build, ring of 512 rows with a row on each, as roots", &ring_with_leaves(), 3, 20);
     builds("build, worst board for the ring test, as roots", &chain_below_a_ring(), 3, 2);
     builds("build, small", &small(), 0, 200);
+    levelled_lists();
     edits();
     navigation();
     println!();

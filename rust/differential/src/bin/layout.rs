@@ -26,7 +26,7 @@ fn main() {
     layout!("listed", Listed, refusal len);
     layout!("climbed", Climbed, refusal len links);
     layout!("summed", Summed, refusal sum);
-    constants!(MAX_ROWS MAX_KEPT MAX_UNDONE JOURNAL_PLACES);
+    constants!(MAX_ROWS MAX_KEPT MAX_UNDONE JOURNAL_PLACES MAX_WIDTH MAX_LINES);
     constants!(MAX_NODES CONTENTS BODY LEVEL_MASK CLOSING_BIT ORPHAN_BIT CALL_WORDS);
     println!("entries {} {} {}", Entry::TAKE_OUT, Entry::PUT_IN, Entry::SET);
     println!("lengths {} {}", index_len(7), totals_len(7));

@@ -2,7 +2,7 @@
 //! Prints its seed first and the counts at the end; fails at the first difference.
 #![forbid(unsafe_code)]
 
-use differential::{builds, edits, navigation, Tally};
+use differential::{builds, edits, levelled, navigation, Tally};
 use generate::{Random, HISTORIES};
 use std::time::{SystemTime, UNIX_EPOCH};
 
@@ -26,6 +26,7 @@ fn main() {
         for _ in 0..100 {
             builds::cases(&mut random, &mut tally);
             builds::islands(&mut random, &mut tally);
+            levelled::cases(&mut random, &mut tally);
             navigation::calls(&mut random, &mut tally);
             navigation::checks(&mut random, &mut tally);
         }

@@ -1,0 +1,201 @@
+-- Every build of a levelled list is as LevelledBuilds says: for every slice of cells, width and slices. Assumes nothing.
+use mathlib.Core.Path.{_≡_, refl, sym, ap, subst, _∙_}
+use mathlib.Core.Logic.{_↔_}
+use mathlib.Core.Bool.{Bool, true, false, cond, not, _||_}
+use mathlib.Core.List.{List, [], _∷_, _++_}
+use Prim.Native.Nat.{ℕ, suc, _+_, _-_, _/_, _%_, _≤_, _<_}
+use native.Mathlib.Omega.{arith}
+use lib.Dec.{T, ltb, eqb}
+use lib.IntN.{ℤ, pos}
+use lib.ListN.{length, getD, drop, replicate, length-map}
+use borrow.Author.Tests.{eq-eqb, ne-eqb, ltb-false}
+use Rattle.lists.specs.ChoiceLaws.{or-no, cond-none}
+use Rattle.lists.specs.Lists.{_∈_, keep, filter, numbers, Increasing, totalsFrom, front}
+use Rattle.lists.specs.MemberLaws.{filter-in, filter-out, numbers-in, numbers-out, numbers-rising, increasing-filter, map-agree, map-map, keep-length, sort-out, sort-count}
+use Rattle.lists.specs.StoreLaws.{front-is, getD-mapped}
+use Rattle.image.specs.declared.Body.{Body}
+use Rattle.image.specs.Layout.{imageWords, bodyOf}
+use Rattle.image.specs.ImageLaws.{holds-front, body-read, bodies-read}
+use Rattle.image.specs.ImageLayer.{HoldsImage}
+use Rattle.index_check.specs.IndexCheck.{accepts}
+use Rattle.built.specs.declared.Built.{Built}
+use Rattle.built.specs.Room.{refusal9}
+use Rattle.forest.specs.Nodes.{rankOf, nodeAt, aboveRank}
+use Rattle.forest.specs.ForestLaws.{node-in, topRank}
+use Rattle.levels.specs.Levelled.{lineBefore, linesOf, sortedLines, levelledNodes, levelledBody, levelledBodies, longestShorter, shortestBeginning, blankLine, blankLines, nodeNumber, refusal18, refusal19, levelledRefusal, levelledBuilt, levelledIndex, levelledTotals}
+use Rattle.levels.specs.LineLaws.{Upto}
+use Rattle.levels.specs.NodeLaws.{nodes-of-lines}
+use Rattle.levels.specs.LevelledLaws.{list-wide, list-sorted, nodes-by-line, levelled-forest, above-longest, top-shortest, node-short}
+use Rattle.sums.specs.HeldLaws.{HoldsTotals}
+use Rattle.answers.specs.Answers.{Navigation, DistancesAtMostZero, LinksByBeginnings}
+use Rattle.answers.specs.AnswerLaws.{first-step, less}
+use Rattle.answers.specs.DescribedLaws.{Described, count-here, levelled, described-accepted}
+use Rattle.answers.specs.NavigationLaws.{navigation-here, links-by-beginnings, distances-at-most-zero}
+use Rattle.answers.specs.ZeroLaws.{zeros-refused}
+use Rattle.guarantee.specs.Builds.{NodeList, BodyOf, Accepted, Refused}
+use Rattle.guarantee.specs.LevelledBuilds.{levelledKind, LevelledRefusal, LevelledBuild, AnyLevelledBuild}
+use Rattle.guarantee.specs.SentenceLaws.{one-of, equal, unequal, ninth}
+
+module _ (s : List ℕ) (w : ℕ) where
+  abbrev S : List (List ℕ)
+  S = sortedLines s w
+
+  abbrev W : List (List ℕ)
+  W = levelledNodes (sortedLines s w)
+
+  abbrev bs : List Body
+  bs = levelledBodies (sortedLines s w)
+
+  sorted : Increasing Upto (sortedLines s w)
+  sorted = list-sorted s w
+
+  nodes : NodeList (levelledKind s w) W
+  nodes = record { holds = nodes-of-lines (linesOf s w); order = nodes-by-line S }
+
+  -- ---- the bodies describe the forest
+
+  described : Described W bs
+  unfolding levelledBodies
+  described = record {
+    sizes = map-map (λ (b : Body). b .size) (levelledBody S W) W;
+    parents = map-map (λ (b : Body). b .parent) (levelledBody S W) W ∙ map-agree (λ p. rankOf W (longestShorter p)) (aboveRank W) W (λ p m. ap (rankOf W) (sym (above-longest S sorted p m)));
+    roots = map-map (λ (b : Body). b .root) (levelledBody S W) W ∙ map-agree (λ p. rankOf W (shortestBeginning p)) (topRank W) W (λ p m. ap (rankOf W) (sym (top-shortest S sorted p m)));
+    levels = map-map (λ (b : Body). b .level) (levelledBody S W) W;
+  }
+
+  -- ---- lines wholly blank
+
+  blankPlaces : List ℕ
+  blankPlaces = filter (λ x. blankLine (getD S (x - 1) [])) (numbers 1 (length S))
+
+  blank-count : (f : List ℕ → Bool) (L M : List (List ℕ)) (k : ℕ) → ((i : ℕ) → i < length L → getD M (k + i - 1) [] ≡ getD L i []) → length (filter (λ x. f (getD M (x - 1) [])) (numbers k (length L))) ≡ length (filter f L)
+  blank-count f [] M k h = refl
+  blank-count f (l ∷ L) M k h = keep-length (f (getD M (k - 1) [])) k l (filter (λ x. f (getD M (x - 1) [])) (numbers (suc k) (length L))) (filter f L) (blank-count f L M (suc k) (λ i b. later i b)) ∙ ap (λ t. length (keep t l (filter f L))) here
+    where
+      here : f (getD M (k - 1) []) ≡ f l
+      here = let e : k + 0 - 1 ≡ k - 1 = omega arith in ap f (sym (ap (λ i. getD M i []) e) ∙ h 0 (omega arith))
+
+      later : (i : ℕ) → i < length L → getD M (suc k + i - 1) [] ≡ getD L i []
+      later i b = let e : suc k + i - 1 ≡ k + suc i - 1 = omega arith in ap (λ j. getD M j []) e ∙ h (suc i) (omega arith)
+
+  blank-rows : length blankPlaces ≡ blankLines s w
+  unfolding blankPlaces
+  blank-rows = blank-count blankLine S S 1 (λ i h. let e : 1 + i - 1 ≡ i = omega arith in ap (λ j. getD S j []) e) ∙ sort-count lineBefore blankLine (linesOf s w)
+
+  blank-is : (x : ℕ) → (x ∈ blankPlaces) ↔ ((1 ≤ x) × (x ≤ length S) × T (blankLine (getD S (x - 1) [])))
+  unfolding blankPlaces
+  blank-is x = (
+    (λ m. let r = filter-out (λ x. blankLine (getD S (x - 1) [])) (numbers 1 (length S)) x m in let n = numbers-out 1 (length S) x (r .0) in (n .0, omega (arith, n .1), r .1)),
+    (λ r. filter-in (λ x. blankLine (getD S (x - 1) [])) (numbers 1 (length S)) x (numbers-in 1 (length S) x (r .0) (omega (arith, r .1))) (r .2)),
+  )
+
+  blank-rising : Increasing _<_ blankPlaces
+  unfolding blankPlaces
+  blank-rising = increasing-filter _<_ (λ x. blankLine (getD S (x - 1) [])) (numbers 1 (length S)) (numbers-rising 1 (length S))
+
+  -- ---- the totals
+
+  zeros : (n : ℕ) (l : List (List ℕ)) → length l ≡ n → totalsFrom (λ (p : List ℕ). pos 0) (pos 0) l ≡ replicate (n + 1) (pos 0)
+  zeros n l e = let d : suc (length l) ≡ n + 1 = omega (arith, e) in go l ∙ ap (λ k. replicate k (pos 0)) d
+    where
+      go : (l : List (List ℕ)) → totalsFrom (λ (p : List ℕ). pos 0) (pos 0) l ≡ replicate (suc (length l)) (pos 0)
+      go [] = refl
+      go (x ∷ l) = ap (λ t. pos 0 ∷ t) (go l)
+
+  -- ---- a build of refusal q; `done` where it is accepted
+
+  abbrev answerWhen : ℕ → Bool → Built
+  answerWhen q done = record { refusal = q; nodes = cond done (nodeNumber s w) 0; left = cond done (blankLines s w) 0 }
+
+  module _ (index : List ℕ) (totals : List ℤ) where
+    abbrev indexWhen : Bool → List ℕ
+    indexWhen done = cond done (front (imageWords bs) index) (replicate (length index) 0)
+
+    abbrev totalsWhen : Bool → List ℤ
+    totalsWhen done = cond done (front (replicate (nodeNumber s w + 1) (pos 0)) totals) (replicate (length totals) (pos 0))
+
+    -- what is had where none of the sentences applies
+    record Unrefused : Type 0 where
+      narrow : w ≤ 8
+      small : length W ≤ 65535
+
+    unrefused : levelledRefusal s w (length index) (length totals) ≡ 0 → Unrefused
+    unfolding levelledRefusal
+    unrefused ok =
+        let a = cond-none (refusal18 s w) 18 (cond (refusal19 s w) 19 (cond (refusal9 (nodeNumber s w) (length index) (length totals)) 9 0)) (omega arith) ok in
+        let b = cond-none (refusal19 s w) 19 (cond (refusal9 (nodeNumber s w) (length index) (length totals)) 9 0) (omega arith) (a .1) in
+        let d = cond-none (refusal9 (nodeNumber s w) (length index) (length totals)) 9 0 (omega arith) (b .1) in
+        let e = or-no (eqb w 0) _ (a .0) in
+        record { narrow = ltb-false _ _ (or-no (ltb 8 w) _ (e .1) .0); small = ltb-false _ _ (or-no (ltb 65535 (nodeNumber s w)) _ (d .0) .0) }
+
+    held : HoldsImage (indexWhen true) bs
+    held = holds-front bs index
+
+    running : HoldsTotals (λ (p : List ℕ). pos 0) W (totalsWhen true)
+    running = record {
+      rest = drop (length (replicate (nodeNumber s w + 1) (pos 0))) totals;
+      is = front-is (replicate (nodeNumber s w + 1) (pos 0)) totals ∙ ap (λ l. l ++ drop (length (replicate (nodeNumber s w + 1) (pos 0))) totals) (sym (zeros (nodeNumber s w) W refl));
+    }
+
+    module _ (u : Unrefused) where
+      short : (p : List ℕ) → p ∈ W → length p < 65536
+      short p m = omega (arith, node-short S sorted w (λ l k. list-wide s w l (sort-out lineBefore (linesOf s w) l k)) p m, u .narrow)
+
+      body-here : (k : ℕ) → 1 ≤ k → k ≤ length W → bodyOf (indexWhen true) k ≡ levelledBody S W (nodeAt W k)
+      unfolding levelledBodies
+      body-here k low high =
+          let n : length bs ≡ length W = length-map W (levelledBody S W) in
+          let d : Body = levelledBody S W [] in
+          let e : getD bs (k - 1) d ≡ levelledBody S W (nodeAt W k) = getD-mapped (levelledBody S W) W (k - 1) [] d (omega arith) in
+          let l : getD bs (k - 1) d .level < 65536 = omega (arith, ap (λ (b : Body). b .level) e, short (nodeAt W k) (node-in (levelled-forest S sorted) k low high)) in
+          body-read held k d low (omega arith) l ∙ e
+
+      bodies-here : (k : ℕ) → 1 ≤ k → k ≤ length W → BodyOf (levelledKind s w) W (nodeAt W k) (bodyOf (indexWhen true) k)
+      bodies-here k low high = subst (BodyOf (levelledKind s w) W (nodeAt W k)) (sym (body-here k low high)) (
+          record { numeral = refl; row = refl; size = refl; parent = refl; root = refl; level = refl; closing = ((λ t. t), (λ b. b)); orphan = ((λ t. t), (λ b. b)) }
+          )
+
+      written : (q : ℕ) → Accepted (levelledKind s w) W (answerWhen q true) index (indexWhen true) totals (totalsWhen true)
+      written q = record {
+        n = refl;
+        count = count-here (levelled-forest S sorted) described short held;
+        bodies = bodies-here;
+        image = ap (λ l. front (imageWords l) index) (sym (bodies-read held (levelled (levelled-forest S sorted) described short)));
+        running = ap (λ l. front l totals) (sym (zeros (nodeNumber s w) W refl));
+        leftRows = blankPlaces;
+        left-rising = blank-rising;
+        left-is = blank-is;
+        left-count = sym blank-rows;
+      }
+
+    zeroed : (q : ℕ) → Refused (answerWhen q false) index (indexWhen false) totals (totalsWhen false)
+    zeroed q = record { n = refl; left = refl; zero-index = refl; zero-totals = refl; navigation = zeros-refused (length index) (replicate (length totals) (pos 0)) }
+
+    first-sentence : LevelledRefusal s w (length index) (length totals) W (levelledRefusal s w (length index) (length totals))
+    unfolding levelledRefusal
+    first-sentence =
+        first-step (refusal18 s w) (one-of (eqb w 0) (ltb 8 w || not (eqb (length s % w) 0)) (equal w 0) (one-of (ltb 8 w) (not (eqb (length s % w) 0)) (less 8 w) (unequal (length s % w) 0))) 18 _
+        (first-step (refusal19 s w) (less 512 (length s / w)) 19 _
+        (first-step (refusal9 (nodeNumber s w) (length index) (length totals)) (ninth (nodeNumber s w) (length index) (length totals)) 9 0 refl))
+
+    build-of : (q : ℕ) → q ≡ levelledRefusal s w (length index) (length totals)
+        → LevelledBuild s w (answerWhen q (eqb q 0)) index (indexWhen (eqb q 0)) totals (totalsWhen (eqb q 0))
+    build-of q e = record {
+      build = record {
+        W = W;
+        nodes = nodes;
+        refusal = subst (LevelledRefusal s w (length index) (length totals) W) (sym e) first-sentence;
+        refused = λ n. subst (λ t. Refused (answerWhen q t) index (indexWhen t) totals (totalsWhen t)) (sym (ne-eqb q 0 n)) (zeroed q);
+        accepted = λ z. subst (λ t. Accepted (levelledKind s w) W (answerWhen q t) index (indexWhen t) totals (totalsWhen t)) (sym (eq-eqb q 0 z)) (written (unrefused (sym e ∙ z)) q);
+        navigation = λ z. let u = unrefused (sym e ∙ z) in
+            subst (λ t. Navigation (λ (p : List ℕ). pos 0) W (Unit {0}) (indexWhen t) (totalsWhen t)) (sym (eq-eqb q 0 z))
+            (navigation-here (levelled-forest S sorted) described (short u) (u .small) held (λ (p : List ℕ). pos 0) (Unit {0}) (λ f p m. omega arith) running);
+      };
+      checked = λ z. let u = unrefused (sym e ∙ z) in subst (λ t. accepts (indexWhen t) ≡ true) (sym (eq-eqb q 0 z)) (described-accepted (levelled-forest S sorted) described (short u) held (u .small));
+      links = λ z. let u = unrefused (sym e ∙ z) in subst (λ t. LinksByBeginnings W (indexWhen t)) (sym (eq-eqb q 0 z)) (links-by-beginnings (levelled-forest S sorted) described (short u) (u .small) held);
+      distances = λ z. let u = unrefused (sym e ∙ z) in subst (λ t. DistancesAtMostZero (indexWhen t)) (sym (eq-eqb q 0 z)) (distances-at-most-zero (levelled-forest S sorted) described (short u) (u .small) held);
+    }
+
+pub levelled-build : AnyLevelledBuild
+unfolding levelledBuilt levelledIndex levelledTotals
+levelled-build s w index totals = build-of s w index totals (levelledRefusal s w (length index) (length totals)) refl

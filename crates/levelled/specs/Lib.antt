@@ -1,0 +1,3 @@
+pub mod WriteLayer
+pub mod WriteLaws
+pub mod BuildLaws
