@@ -1,5 +1,5 @@
--- Demand 3 of paper 01, whole: any list of calls from the empty board, then any build on the board they left, then any navigation and sum on what the build left; and the same of any build on
--- any sound board; a build on any other is refused. These are definitions, in the words of "What demand 3 compares"; that they hold is `guarantee`, `sound-build` and `unsound-build` in GuaranteeLaws. Assumes nothing.
+-- Demand 3 of paper 01, whole: any list of calls from the empty board, then any build on the board they left, or of any levelled list, then any navigation and sum on what the build left; and the
+-- same of any build on any sound board; a build on any other is refused. These are definitions, in the words of "What demand 3 compares"; that they hold is `guarantee`, `sound-build` and `unsound-build` in GuaranteeLaws. Assumes nothing.
 use mathlib.Core.Path.{_≡_}
 use mathlib.Core.Logic.{_⊎_, _≢_}
 use mathlib.Core.Bool.{Bool, true, false}

@@ -328,6 +328,7 @@ fn finish(
         left: left,
     }
 }
+
 // The build of whole lines, few enough, with working slices.
 fn run(
     lines: &[u32],
