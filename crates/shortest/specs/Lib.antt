@@ -1,2 +1,5 @@
 pub mod Shortest
 pub mod BreadthLayer
+pub mod BreadthLaws
+pub mod KeptLaws
+pub mod ShortestLaws

@@ -35,11 +35,11 @@ abbrev pub firstShortest : List (List ℕ) → List ℕ
 firstShortest [] = []
 firstShortest (p ∷ l) = fewestRows p l
 
-module _ (R : List Row) where
-  -- p has fewer rows than q, or as many and comes first in path order
-  abbrev pub Sooner : List ℕ → List ℕ → Type 0
-  Sooner p q = (length p < length q) ⊎ ((length p ≡ length q) × Before (Sibling R) p q)
+-- p has fewer rows than q, or as many and comes first in the path order that an order of rows gives
+abbrev pub Sooner : (ℕ → ℕ → Type 0) → List ℕ → List ℕ → Type 0
+Sooner lt p q = (length p < length q) ⊎ ((length p ≡ length q) × Before lt p q)
 
+module _ (R : List Row) where
   -- the numeral that a path reaches
   abbrev pub reached : List ℕ → ℕ
   reached p = num R (last p)
@@ -48,7 +48,7 @@ module _ (R : List Row) where
   module _ (start : Row → Bool) where
     -- "keeps, for each numeral that a regular path reaches, the path with fewest rows, and among those the first in path order"
     abbrev pub Kept : List ℕ → Type 0
-    Kept p = Regular R start None p × ((q : List ℕ) → Regular R start None q → reached q ≡ reached p → (q ≡ p) ⊎ Sooner p q)
+    Kept p = Regular R start None p × ((q : List ℕ) → Regular R start None q → reached q ≡ reached p → (q ≡ p) ⊎ Sooner (Sibling R) p q)
 
     -- the regular paths that reach a numeral, in path order
     abbrev pub pathsTo : ℕ → List (List ℕ)
