@@ -3,3 +3,4 @@ pub mod BreadthLayer
 pub mod BreadthLaws
 pub mod KeptLaws
 pub mod ShortestLaws
+pub mod ShortestCases
