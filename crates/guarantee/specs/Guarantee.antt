@@ -1,5 +1,6 @@
--- Demand 3 of paper 01, whole: any list of calls from the empty board, then any build on the board they left, or of any levelled list, then any navigation and sum on what the build left; and the
--- same of any build on any sound board; a build on any other is refused. These are definitions, in the words of "What demand 3 compares"; that they hold is `guarantee`, `sound-build` and `unsound-build` in GuaranteeLaws. Assumes nothing.
+-- Demand 3 of paper 01, whole: any list of calls from the empty board, then any build on the board they left, over all paths or of shortest placement, or of any levelled list, then any navigation and
+-- sum on what the build left; and the same of any build on any sound board; a build on any other is refused. These are definitions, in the words of "What demand 3 compares"; that they hold is
+-- `guarantee`, `sound-build`, `unsound-build` and `sound-shortest` in GuaranteeLaws, and `unsound-shortest` in ShortestBuildLaws. Assumes nothing.
 use mathlib.Core.Path.{_≡_}
 use mathlib.Core.Logic.{_⊎_, _≢_}
 use mathlib.Core.Bool.{Bool, true, false}
@@ -34,6 +35,7 @@ use Rattle.built.specs.declared.Built.{Built}
 use Rattle.request.specs.Build.{startRule, builtOf, indexAfter, totalsAfter}
 use Rattle.guarantee.specs.Builds.{NodeKind, Shares, Refused, Build}
 use Rattle.guarantee.specs.LevelledBuilds.{AnyLevelledBuild}
+use Rattle.guarantee.specs.ShortestBuilds.{ShortestOn}
 
 -- ---- the nodes over the rows R, and what their bodies say
 
@@ -114,6 +116,9 @@ RowsFit R = (r : Row) → r ∈ R → SFits w32 (r .minutes)
 abbrev pub SoundBuild : Board → Type 0
 SoundBuild b = soundOf b ≡ true → BuildOn b (rowsOf b) (RowsFit (rowsOf b))
 
+abbrev pub SoundShortest : Board → Type 0
+SoundShortest b = soundOf b ≡ true → ShortestOn b (rowsOf b) (RowsFit (rowsOf b))
+
 -- "1. The board isn't sound.", before all other sentences
 abbrev pub UnsoundBuild : Board → Type 0
 UnsoundBuild b = soundOf b ≡ false → (code : ℕ) (depth : Depth) (rule : Start) (list index : List ℕ) (totals : List ℤ)
@@ -129,5 +134,6 @@ UnsoundBuild b = soundOf b ≡ false → (code : ℕ) (depth : Depth) (rule : St
 pub record Guarantee (cs : List Call) : Type 0 where
   pub edits : Simulates cs
   pub build : BuildOn (final emptyOf cs) (after start cs .rows) (AllFit cs)
+  pub shortest : ShortestOn (final emptyOf cs) (after start cs .rows) (AllFit cs)
   -- a build of a levelled list takes no board, and is the same after any calls
   pub levelled : AnyLevelledBuild

@@ -47,11 +47,13 @@ use Rattle.answers.specs.ZeroLaws.{zeros-refused}
 use Rattle.built.specs.declared.Built.{Built}
 use Rattle.request.specs.Build.{startRule, buildRefusal, builtOf, indexAfter, totalsAfter}
 use Rattle.guarantee.specs.Builds.{Accepted, Refused}
-use Rattle.guarantee.specs.Guarantee.{buildNodes, BuildRefusal, PathBuild, BuildOn, RowsFit, SoundBuild, UnsoundBuild, Guarantee}
+use Rattle.guarantee.specs.Guarantee.{buildNodes, BuildRefusal, PathBuild, BuildOn, RowsFit, SoundBuild, SoundShortest, UnsoundBuild, Guarantee}
 use Rattle.guarantee.specs.BodyLaws.{node-list, read-of, described, short}
 use Rattle.guarantee.specs.SentenceLaws.{first-sentence}
 use Rattle.guarantee.specs.MinutesLaws.{rows-fit}
+use Rattle.guarantee.specs.ShortestBuilds.{ShortestOn}
 use Rattle.guarantee.specs.LevelledBuildLaws.{levelled-build}
+use Rattle.guarantee.specs.ShortestBuildLaws.{shortest-on}
 
 -- sentence 7 doesn't apply, so a depth is given only where there are no orphan nodes
 allowed-here : (depth : Depth) (orphan : ℕ) → refusal7 orphan depth ≡ false → Allowed depth (orphanChoice orphan)
@@ -182,6 +184,12 @@ build-on b sound fits f code depth rule list index totals =
 pub sound-build : (b : Board) → SoundBuild b
 sound-build b sound = build-on b sound (RowsFit (rowsOf b)) (λ f. f)
 
+shortest-of : (b : Board) → soundOf b ≡ true → (fits : Type 0) → (fits → RowsFit (rowsOf b)) → ShortestOn b (rowsOf b) fits
+shortest-of b sound fits f = shortest-on b sound (sound-few b sound) fits (λ g r i. f g r i .sfits)
+
+pub sound-shortest : (b : Board) → SoundShortest b
+sound-shortest b sound = shortest-of b sound (RowsFit (rowsOf b)) (λ f. f)
+
 -- ---- a build on a board that isn't sound
 
 pub unsound-build : (b : Board) → UnsoundBuild b
@@ -201,5 +209,7 @@ guarantee cs = record {
   edits = simulation cs;
   build = subst (λ R. BuildOn (final emptyOf cs) R (AllFit cs)) (final-rows cs)
       (build-on (final emptyOf cs) (final-sound cs) (AllFit cs) (λ g. subst RowsFit (sym (final-rows cs)) (rows-fit cs g)));
+  shortest = subst (λ R. ShortestOn (final emptyOf cs) R (AllFit cs)) (final-rows cs)
+      (shortest-of (final emptyOf cs) (final-sound cs) (AllFit cs) (λ g. subst RowsFit (sym (final-rows cs)) (rows-fit cs g)));
   levelled = levelled-build;
 }

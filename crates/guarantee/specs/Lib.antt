@@ -1,10 +1,13 @@
 pub mod Builds
+pub mod KindLaws
 pub mod LevelledBuilds
+pub mod ShortestBuilds
 pub mod Guarantee
 pub mod BodyLaws
 pub mod SentenceLaws
 pub mod MinutesLaws
 pub mod LevelledBuildLaws
+pub mod ShortestBuildLaws
 pub mod GuaranteeLaws
 pub mod BuiltIndexLaws
 pub mod Marked

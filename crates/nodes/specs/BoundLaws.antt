@@ -173,7 +173,7 @@ module _ (R : List Row) (start : Row → Bool) where
     level-fits h b m = omega (arith, bodies-bounded b m .level-high)
 
 -- minutes of 32 signed bits
-minutes-fit : (R : List Row) → ((r : Row) → r ∈ R → mag (r .minutes) < 2147483648) → (x : ℕ) → mag (row R x .minutes) < 2147483648
+pub minutes-fit : (R : List Row) → ((r : Row) → r ∈ R → mag (r .minutes) < 2147483648) → (x : ℕ) → mag (row R x .minutes) < 2147483648
 minutes-fit R h zero = omega arith
 minutes-fit R h (suc k) = go (decLt k (length R))
   where
