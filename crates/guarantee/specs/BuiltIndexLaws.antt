@@ -1,37 +1,24 @@
 -- Every index that an accepted build leaves is accepted by the index check, its ancestors are at distances of 0 or less, and the links to them are the level less 1: for every board, option code,
 -- depth, start rule and slices. Assumes nothing.
-use mathlib.Core.Path.{_≡_, refl, sym, subst}
+use mathlib.Core.Path.{_≡_, refl}
 use mathlib.Core.Bool.{Bool, true, false, cond}
 use mathlib.Core.List.{List}
 use Prim.Native.Nat.{ℕ, _≤_}
 use native.Mathlib.Omega.{arith}
 use lib.IntN.{ℤ}
-use lib.ListN.{length, replicate}
-use borrow.Author.Tests.{eq-eqb}
-use Rattle.lists.specs.Lists.{front}
+use lib.ListN.{length}
 use Rattle.rows.specs.declared.Row.{Row}
 use Rattle.board.specs.declared.Board.{Board}
 use Rattle.board.specs.Edits.{rowsOf, soundOf}
 use Rattle.options.specs.declared.Depth.{Depth}
 use Rattle.options.specs.Options.{orphanOf}
-use Rattle.image.specs.declared.Body.{Body}
-use Rattle.image.specs.Layout.{imageWords}
-use Rattle.image.specs.ImageLaws.{holds-front}
-use Rattle.image.specs.ImageLayer.{HoldsImage}
-use Rattle.paths.specs.Paths.{Orphan}
-use Rattle.forest.specs.ForestLaws.{Closed}
-use Rattle.nodes.specs.Nodes.{nodes}
-use Rattle.nodes.specs.Bodies.{bodies}
 use Rattle.nodes.specs.Refusals.{orphanChoice, refusalOf}
-use Rattle.nodes.specs.NodeLaws.{nodes-forest}
 use Rattle.nodes.specs.ParentLaws.{nodes-closed}
 use Rattle.index_check.specs.IndexCheck.{accepts}
 use Rattle.answers.specs.Answers.{DistancesAtMostZero, LinksByLevel}
-use Rattle.answers.specs.DescribedLaws.{described-accepted}
-use Rattle.answers.specs.NavigationLaws.{distances-at-most-zero, links-by-level}
 use Rattle.request.specs.Build.{buildRefusal, builtOf, indexAfter}
-use Rattle.guarantee.specs.BodyLaws.{described, short}
-use Rattle.guarantee.specs.GuaranteeLaws.{Unrefused, unrefused, sound-few}
+use Rattle.guarantee.specs.KindLaws.{Outcome, indexWhen, Fitting, checked-here, levels-here, distances-here, when-none}
+use Rattle.guarantee.specs.GuaranteeLaws.{outcome, allowed, fitting, sound-few}
 
 -- no refusal 1, and none after it
 sound-first : (t : Bool) (q : ℕ) → cond t q 1 ≡ 0 → (t ≡ true) × (q ≡ 0)
@@ -42,12 +29,6 @@ module _ (b : Board) (code : ℕ) (depth : Depth) (starts : Row → Bool) (index
   abbrev R : List Row
   R = rowsOf b
 
-  abbrev o : Orphan
-  o = orphanChoice (orphanOf code)
-
-  abbrev bs : List Body
-  bs = bodies R starts depth o
-
   parts : (soundOf b ≡ true) × (refusalOf R code depth starts (length index) (length totals) ≡ 0)
   unfolding builtOf buildRefusal
   parts = sound-first (soundOf b) (refusalOf R code depth starts (length index) (length totals)) accepted
@@ -55,26 +36,27 @@ module _ (b : Board) (code : ℕ) (depth : Depth) (starts : Row → Bool) (index
   few : length R ≤ 1024
   few = sound-few b (parts .0)
 
-  r : Unrefused R code depth starts few index totals
-  r = unrefused R code depth starts few index totals (parts .1)
+  made : Outcome
+  made = outcome R code depth starts
 
-  held : HoldsImage (indexAfter b code depth starts index (length totals)) bs
-  unfolding builtOf indexAfter
-  held =
-      subst (λ t. HoldsImage (cond t (front (imageWords bs) index) (replicate (length index) 0)) bs) (sym (eq-eqb (buildRefusal b code depth starts (length index) (length totals)) 0 accepted))
-      (holds-front bs index)
+  fit : Fitting made
+  unfolding made
+  fit = fitting R code depth starts few index totals (parts .1)
 
-  closed : Closed (nodes R starts depth o)
-  closed = nodes-closed R starts depth o (r .allowed)
+  -- what holds of the image holds of what the build left
+  built : (P : List ℕ → Type 0) → P (indexWhen made index true) → P (indexAfter b code depth starts index (length totals))
+  unfolding builtOf indexAfter made
+  built P h = when-none made index totals (λ a i t. P i) accepted h
 
   -- the index check's answer is yes
   pub built-accepted : accepts (indexAfter b code depth starts index (length totals)) ≡ true
-  built-accepted = described-accepted (nodes-forest R starts depth o) (described R starts depth o (r .allowed)) (short R starts depth o few) held (r .small)
+  built-accepted = built (λ i. accepts i ≡ true) (checked-here made index totals fit)
 
   -- "on a built index distances are 0 or less"
   pub built-distances : DistancesAtMostZero (indexAfter b code depth starts index (length totals))
-  built-distances = distances-at-most-zero (nodes-forest R starts depth o) (described R starts depth o (r .allowed)) (short R starts depth o few) (r .small) held
+  built-distances = built DistancesAtMostZero (distances-here made index totals fit)
 
   -- "on a built index that is level − 1"
   pub built-links : LinksByLevel (indexAfter b code depth starts index (length totals))
-  built-links = links-by-level (nodes-forest R starts depth o) (described R starts depth o (r .allowed)) (short R starts depth o few) (r .small) held closed
+  unfolding made
+  built-links = built LinksByLevel (levels-here made index totals fit (nodes-closed R starts depth (orphanChoice (orphanOf code)) (allowed R code depth starts few index totals (parts .1))))

@@ -1,7 +1,7 @@
 -- A build over any kind of nodes: where the list of the nodes, the bodies and the rows left over are known, what it answers and leaves is as Builds says. Assumes nothing.
 use mathlib.Core.Path.{_≡_, refl, sym, ap, subst, _∙_}
 use mathlib.Core.Logic.{_↔_}
-use mathlib.Core.Bool.{Bool, true, false, cond}
+use mathlib.Core.Bool.{Bool, true, false, cond, true≢false}
 use mathlib.Core.List.{List, _++_}
 use Prim.Native.Nat.{ℕ, _-_, _≤_, _<_}
 use native.Mathlib.Omega.{arith}
@@ -48,6 +48,12 @@ module _ (o : Outcome) where
 
   pub zeroed : (q : ℕ) (index : List ℕ) (totals : List ℤ) → Refused (answerWhen q false) index (indexWhen index false) totals (totalsWhen totals false)
   zeroed q index totals = record { n = refl; left = refl; zero-index = refl; zero-totals = refl; navigation = zeros-refused (length index) (replicate (length totals) (pos 0)) }
+
+  -- "1. The board isn't sound."; q is the number of the first of the other sentences
+  pub unsound-refused : (sound : Bool) (q : ℕ) → sound ≡ false → (index : List ℕ) (totals : List ℤ) → let n : ℕ = cond sound q 1 in
+      (n ≡ 1) × Refused (answerWhen n (eqb n 0)) index (indexWhen index (eqb n 0)) totals (totalsWhen totals (eqb n 0))
+  unsound-refused true q e index totals = absurd (true≢false e)
+  unsound-refused false q e index totals = (refl, zeroed 1 index totals)
 
   -- the bodies describe the forest, one for each node, and fit an index
   pub record Fitting : Type 1 where

@@ -1,38 +1,32 @@
 -- Every build of a levelled list is as LevelledBuilds says: for every slice of cells, width and slices. Assumes nothing.
 use mathlib.Core.Path.{_≡_, refl, sym, ap, subst, _∙_}
 use mathlib.Core.Logic.{_↔_}
-use mathlib.Core.Bool.{Bool, true, false, cond, not, _||_}
-use mathlib.Core.List.{List, [], _∷_, _++_}
+use mathlib.Core.Bool.{Bool, true, cond, not, _||_}
+use mathlib.Core.List.{List, [], _∷_}
 use Prim.Native.Nat.{ℕ, suc, _+_, _-_, _/_, _%_, _≤_, _<_}
 use native.Mathlib.Omega.{arith}
 use lib.Dec.{T, ltb, eqb}
 use lib.IntN.{ℤ, pos}
-use lib.ListN.{length, getD, drop, replicate, length-map}
-use borrow.Author.Tests.{eq-eqb, ne-eqb, ltb-false}
+use lib.ListN.{length, getD, replicate}
+use borrow.Author.Tests.{ltb-false}
 use Rattle.lists.specs.ChoiceLaws.{or-no, cond-none}
-use Rattle.lists.specs.Lists.{_∈_, keep, filter, numbers, Increasing, totalsFrom, front}
+use Rattle.lists.specs.Lists.{_∈_, keep, filter, numbers, Increasing, totalsFrom}
 use Rattle.lists.specs.MemberLaws.{filter-in, filter-out, numbers-in, numbers-out, numbers-rising, increasing-filter, map-agree, map-map, keep-length, sort-out, sort-count}
-use Rattle.lists.specs.StoreLaws.{front-is, getD-mapped}
+use Rattle.lists.specs.StoreLaws.{getD-mapped}
 use Rattle.image.specs.declared.Body.{Body}
-use Rattle.image.specs.Layout.{imageWords, bodyOf}
-use Rattle.image.specs.ImageLaws.{holds-front, body-read, bodies-read}
-use Rattle.image.specs.ImageLayer.{HoldsImage}
 use Rattle.index_check.specs.IndexCheck.{accepts}
-use Rattle.built.specs.declared.Built.{Built}
 use Rattle.built.specs.Room.{refusal9}
 use Rattle.forest.specs.Nodes.{rankOf, nodeAt, aboveRank}
-use Rattle.forest.specs.ForestLaws.{node-in, topRank}
+use Rattle.forest.specs.ForestLaws.{topRank}
 use Rattle.levels.specs.Levelled.{lineBefore, linesOf, sortedLines, levelledNodes, levelledBody, levelledBodies, longestShorter, shortestBeginning, blankLine, blankLines, nodeNumber, refusal18, refusal19, levelledRefusal, levelledBuilt, levelledIndex, levelledTotals}
 use Rattle.levels.specs.LineLaws.{Upto}
 use Rattle.levels.specs.NodeLaws.{nodes-of-lines}
 use Rattle.levels.specs.LevelledLaws.{list-wide, list-sorted, nodes-by-line, levelled-forest, above-longest, top-shortest, node-short}
-use Rattle.sums.specs.HeldLaws.{HoldsTotals}
-use Rattle.answers.specs.Answers.{Navigation, DistancesAtMostZero, LinksByBeginnings}
+use Rattle.answers.specs.Answers.{DistancesAtMostZero, LinksByBeginnings}
 use Rattle.answers.specs.AnswerLaws.{first-step, less}
-use Rattle.answers.specs.DescribedLaws.{Described, count-here, levelled, described-accepted}
-use Rattle.answers.specs.NavigationLaws.{navigation-here, links-by-beginnings, distances-at-most-zero}
-use Rattle.answers.specs.ZeroLaws.{zeros-refused}
-use Rattle.guarantee.specs.Builds.{NodeList, BodyOf, Accepted, Refused}
+use Rattle.answers.specs.DescribedLaws.{Described, levelled}
+use Rattle.guarantee.specs.Builds.{NodeList, BodyOf}
+use Rattle.guarantee.specs.KindLaws.{Outcome, answerWhen, indexWhen, totalsWhen, Fitting, checked-here, beginnings-here, distances-here, when-none, kind-build}
 use Rattle.guarantee.specs.LevelledBuilds.{levelledKind, LevelledRefusal, LevelledBuild, AnyLevelledBuild}
 use Rattle.guarantee.specs.SentenceLaws.{one-of, equal, unequal, ninth}
 
@@ -102,74 +96,33 @@ module _ (s : List ℕ) (w : ℕ) where
       go [] = refl
       go (x ∷ l) = ap (λ t. pos 0 ∷ t) (go l)
 
-  -- ---- a build of refusal q; `done` where it is accepted
+  -- ---- a build
 
-  abbrev answerWhen : ℕ → Bool → Built
-  answerWhen q done = record { refusal = q; nodes = cond done (nodeNumber s w) 0; left = cond done (blankLines s w) 0 }
+  abbrev outcome : Outcome
+  outcome = record { W = W; bs = bs; running = replicate (nodeNumber s w + 1) (pos 0); left = blankLines s w }
+
+  each : (k : ℕ) (d : Body) → 1 ≤ k → k ≤ length W → BodyOf (levelledKind s w) W (nodeAt W k) (getD bs (k - 1) d)
+  unfolding levelledBodies
+  each k d low high = subst (BodyOf (levelledKind s w) W (nodeAt W k)) (sym (getD-mapped (levelledBody S W) W (k - 1) [] d (omega arith))) (
+      record { numeral = refl; row = refl; size = refl; parent = refl; root = refl; level = refl; closing = ((λ t. t), (λ b. b)); orphan = ((λ t. t), (λ b. b)) }
+      )
 
   module _ (index : List ℕ) (totals : List ℤ) where
-    abbrev indexWhen : Bool → List ℕ
-    indexWhen done = cond done (front (imageWords bs) index) (replicate (length index) 0)
-
-    abbrev totalsWhen : Bool → List ℤ
-    totalsWhen done = cond done (front (replicate (nodeNumber s w + 1) (pos 0)) totals) (replicate (length totals) (pos 0))
-
-    -- what is had where none of the sentences applies
-    record Unrefused : Type 0 where
-      narrow : w ≤ 8
-      small : length W ≤ 65535
-
-    unrefused : levelledRefusal s w (length index) (length totals) ≡ 0 → Unrefused
+    -- where none of the sentences applies
+    fitting : levelledRefusal s w (length index) (length totals) ≡ 0 → Fitting outcome
     unfolding levelledRefusal
-    unrefused ok =
+    fitting ok =
         let a = cond-none (refusal18 s w) 18 (cond (refusal19 s w) 19 (cond (refusal9 (nodeNumber s w) (length index) (length totals)) 9 0)) (omega arith) ok in
         let b = cond-none (refusal19 s w) 19 (cond (refusal9 (nodeNumber s w) (length index) (length totals)) 9 0) (omega arith) (a .1) in
         let d = cond-none (refusal9 (nodeNumber s w) (length index) (length totals)) 9 0 (omega arith) (b .1) in
         let e = or-no (eqb w 0) _ (a .0) in
-        record { narrow = ltb-false _ _ (or-no (ltb 8 w) _ (e .1) .0); small = ltb-false _ _ (or-no (ltb 65535 (nodeNumber s w)) _ (d .0) .0) }
-
-    held : HoldsImage (indexWhen true) bs
-    held = holds-front bs index
-
-    running : HoldsTotals (λ (p : List ℕ). pos 0) W (totalsWhen true)
-    running = record {
-      rest = drop (length (replicate (nodeNumber s w + 1) (pos 0))) totals;
-      is = front-is (replicate (nodeNumber s w + 1) (pos 0)) totals ∙ ap (λ l. l ++ drop (length (replicate (nodeNumber s w + 1) (pos 0))) totals) (sym (zeros (nodeNumber s w) W refl));
-    }
-
-    module _ (u : Unrefused) where
-      short : (p : List ℕ) → p ∈ W → length p < 65536
-      short p m = omega (arith, node-short S sorted w (λ l k. list-wide s w l (sort-out lineBefore (linesOf s w) l k)) p m, u .narrow)
-
-      body-here : (k : ℕ) → 1 ≤ k → k ≤ length W → bodyOf (indexWhen true) k ≡ levelledBody S W (nodeAt W k)
-      unfolding levelledBodies
-      body-here k low high =
-          let n : length bs ≡ length W = length-map W (levelledBody S W) in
-          let d : Body = levelledBody S W [] in
-          let e : getD bs (k - 1) d ≡ levelledBody S W (nodeAt W k) = getD-mapped (levelledBody S W) W (k - 1) [] d (omega arith) in
-          let l : getD bs (k - 1) d .level < 65536 = omega (arith, ap (λ (b : Body). b .level) e, short (nodeAt W k) (node-in (levelled-forest S sorted) k low high)) in
-          body-read held k d low (omega arith) l ∙ e
-
-      bodies-here : (k : ℕ) → 1 ≤ k → k ≤ length W → BodyOf (levelledKind s w) W (nodeAt W k) (bodyOf (indexWhen true) k)
-      bodies-here k low high = subst (BodyOf (levelledKind s w) W (nodeAt W k)) (sym (body-here k low high)) (
-          record { numeral = refl; row = refl; size = refl; parent = refl; root = refl; level = refl; closing = ((λ t. t), (λ b. b)); orphan = ((λ t. t), (λ b. b)) }
-          )
-
-      written : (q : ℕ) → Accepted (levelledKind s w) W (answerWhen q true) index (indexWhen true) totals (totalsWhen true)
-      written q = record {
-        n = refl;
-        count = count-here (levelled-forest S sorted) described short held;
-        bodies = bodies-here;
-        image = ap (λ l. front (imageWords l) index) (sym (bodies-read held (levelled (levelled-forest S sorted) described short)));
-        running = ap (λ l. front l totals) (sym (zeros (nodeNumber s w) W refl));
-        leftRows = blankPlaces;
-        left-rising = blank-rising;
-        left-is = blank-is;
-        left-count = sym blank-rows;
-      }
-
-    zeroed : (q : ℕ) → Refused (answerWhen q false) index (indexWhen false) totals (totalsWhen false)
-    zeroed q = record { n = refl; left = refl; zero-index = refl; zero-totals = refl; navigation = zeros-refused (length index) (replicate (length totals) (pos 0)) }
+        let narrow : w ≤ 8 = ltb-false _ _ (or-no (ltb 8 w) _ (e .1) .0) in
+        record {
+          forest = levelled-forest S sorted;
+          described = described;
+          short = λ p m. omega (arith, node-short S sorted w (λ l k. list-wide s w l (sort-out lineBefore (linesOf s w) l k)) p m, narrow);
+          small = ltb-false _ _ (or-no (ltb 65535 (nodeNumber s w)) _ (d .0) .0);
+        }
 
     first-sentence : LevelledRefusal s w (length index) (length totals) W (levelledRefusal s w (length index) (length totals))
     unfolding levelledRefusal
@@ -179,21 +132,13 @@ module _ (s : List ℕ) (w : ℕ) where
         (first-step (refusal9 (nodeNumber s w) (length index) (length totals)) (ninth (nodeNumber s w) (length index) (length totals)) 9 0 refl))
 
     build-of : (q : ℕ) → q ≡ levelledRefusal s w (length index) (length totals)
-        → LevelledBuild s w (answerWhen q (eqb q 0)) index (indexWhen (eqb q 0)) totals (totalsWhen (eqb q 0))
+        → LevelledBuild s w (answerWhen outcome q (eqb q 0)) index (indexWhen outcome index (eqb q 0)) totals (totalsWhen outcome totals (eqb q 0))
     build-of q e = record {
-      build = record {
-        W = W;
-        nodes = nodes;
-        refusal = subst (LevelledRefusal s w (length index) (length totals) W) (sym e) first-sentence;
-        refused = λ n. subst (λ t. Refused (answerWhen q t) index (indexWhen t) totals (totalsWhen t)) (sym (ne-eqb q 0 n)) (zeroed q);
-        accepted = λ z. subst (λ t. Accepted (levelledKind s w) W (answerWhen q t) index (indexWhen t) totals (totalsWhen t)) (sym (eq-eqb q 0 z)) (written (unrefused (sym e ∙ z)) q);
-        navigation = λ z. let u = unrefused (sym e ∙ z) in
-            subst (λ t. Navigation (λ (p : List ℕ). pos 0) W (Unit {0}) (indexWhen t) (totalsWhen t)) (sym (eq-eqb q 0 z))
-            (navigation-here (levelled-forest S sorted) described (short u) (u .small) held (λ (p : List ℕ). pos 0) (Unit {0}) (λ f p m. omega arith) running);
-      };
-      checked = λ z. let u = unrefused (sym e ∙ z) in subst (λ t. accepts (indexWhen t) ≡ true) (sym (eq-eqb q 0 z)) (described-accepted (levelled-forest S sorted) described (short u) held (u .small));
-      links = λ z. let u = unrefused (sym e ∙ z) in subst (λ t. LinksByBeginnings W (indexWhen t)) (sym (eq-eqb q 0 z)) (links-by-beginnings (levelled-forest S sorted) described (short u) (u .small) held);
-      distances = λ z. let u = unrefused (sym e ∙ z) in subst (λ t. DistancesAtMostZero (indexWhen t)) (sym (eq-eqb q 0 z)) (distances-at-most-zero (levelled-forest S sorted) described (short u) (u .small) held);
+      build = kind-build outcome index totals (levelledKind s w) nodes each (sym (zeros (nodeNumber s w) W refl)) blankPlaces blank-rising blank-is (sym blank-rows)
+          (LevelledRefusal s w (length index) (length totals)) q (subst (LevelledRefusal s w (length index) (length totals) W) (sym e) first-sentence) (λ z. fitting (sym e ∙ z)) (Unit {0}) (λ f p m. omega arith);
+      checked = λ z. when-none outcome index totals (λ a i t. accepts i ≡ true) z (checked-here outcome index totals (fitting (sym e ∙ z)));
+      links = λ z. when-none outcome index totals (λ a i t. LinksByBeginnings W i) z (beginnings-here outcome index totals (fitting (sym e ∙ z)));
+      distances = λ z. when-none outcome index totals (λ a i t. DistancesAtMostZero i) z (distances-here outcome index totals (fitting (sym e ∙ z)));
     }
 
 pub levelled-build : AnyLevelledBuild

@@ -33,7 +33,8 @@ use Rattle.navigate.specs.Climb.{climbFrom, stuckFrom, ancestorsAnswer, ancesto
 use Rattle.sums.specs.Sums.{beyond, subtreeAnswer}
 use Rattle.built.specs.declared.Built.{Built}
 use Rattle.request.specs.Build.{buildRefusal, builtOf, indexAfter, totalsAfter}
-use Rattle.guarantee.specs.GuaranteeLaws.{answerWhen, indexWhen, totalsWhen}
+use Rattle.guarantee.specs.KindLaws.{answerWhen, indexWhen, totalsWhen}
+use Rattle.guarantee.specs.GuaranteeLaws.{outcome}
 use Rattle.guarantee.specs.Marked.{lines, builtIndex, builtTotals, MarkedCases}
 
 -- ---- the same build over rows
@@ -43,13 +44,13 @@ module _ (R : List Row) (code : ℕ) (depth : Depth) (start : Row → Bool) wher
   accepted words totals = eqb (refusalOf R code depth start words totals) 0
 
   abbrev builtFor : ℕ → ℕ → Built
-  builtFor words totals = answerWhen R code depth start (refusalOf R code depth start words totals) (accepted words totals)
+  builtFor words totals = answerWhen (outcome R code depth start) (refusalOf R code depth start words totals) (accepted words totals)
 
   abbrev indexFor : List ℕ → ℕ → List ℕ
-  indexFor index totals = indexWhen R code depth start index (accepted (length index) totals)
+  indexFor index totals = indexWhen (outcome R code depth start) index (accepted (length index) totals)
 
   abbrev totalsFor : ℕ → List ℤ → List ℤ
-  totalsFor words totals = totalsWhen R code depth start totals (accepted words (length totals))
+  totalsFor words totals = totalsWhen (outcome R code depth start) totals (accepted words (length totals))
 
 module _ (cs : List Call) (code : ℕ) (depth : Depth) (rule : Row → Bool) where
   abbrev R : List Row
@@ -59,19 +60,19 @@ module _ (cs : List Call) (code : ℕ) (depth : Depth) (rule : Row → Bool) whe
   built-is : (words totals : ℕ) → builtOf (final emptyOf cs) code depth rule words totals ≡ builtFor (after start cs .rows) code depth rule words totals
   unfolding builtOf buildRefusal
   built-is words totals =
-      ap (λ t. let q : ℕ = cond t (refusalOf R code depth rule words totals) 1 in answerWhen R code depth rule q (eqb q 0)) (final-sound cs)
+      ap (λ t. let q : ℕ = cond t (refusalOf R code depth rule words totals) 1 in answerWhen (outcome R code depth rule) q (eqb q 0)) (final-sound cs)
       ∙ ap (λ R. builtFor R code depth rule words totals) (final-rows cs)
 
   index-is : (index : List ℕ) (totals : ℕ) → indexAfter (final emptyOf cs) code depth rule index totals ≡ indexFor (after start cs .rows) code depth rule index totals
   unfolding indexAfter buildRefusal
   index-is index totals =
-      ap (λ t. indexWhen R code depth rule index (eqb (cond t (refusalOf R code depth rule (length index) totals) 1) 0)) (final-sound cs)
+      ap (λ t. indexWhen (outcome R code depth rule) index (eqb (cond t (refusalOf R code depth rule (length index) totals) 1) 0)) (final-sound cs)
       ∙ ap (λ R. indexFor R code depth rule index totals) (final-rows cs)
 
   totals-is : (words : ℕ) (totals : List ℤ) → totalsAfter (final emptyOf cs) code depth rule words totals ≡ totalsFor (after start cs .rows) code depth rule words totals
   unfolding totalsAfter buildRefusal
   totals-is words totals =
-      ap (λ t. totalsWhen R code depth rule totals (eqb (cond t (refusalOf R code depth rule words (length totals)) 1) 0)) (final-sound cs)
+      ap (λ t. totalsWhen (outcome R code depth rule) totals (eqb (cond t (refusalOf R code depth rule words (length totals)) 1) 0)) (final-sound cs)
       ∙ ap (λ R. totalsFor R code depth rule words totals) (final-rows cs)
 
 -- ---- the index and the totals of M1

@@ -1,5 +1,5 @@
 -- Every build of shortest placement is as ShortestBuilds says: on every sound board, for every start rule and slices; on any other it is refused. Assumes nothing.
-use mathlib.Core.Path.{_≡_, refl, sym, ap, subst, _∙_}
+use mathlib.Core.Path.{_≡_, refl, sym, ap, subst}
 use mathlib.Core.Bool.{Bool, true, false, cond}
 use mathlib.Core.List.{List, []}
 use Prim.Native.Nat.{ℕ, _-_, _≤_, _<_}
@@ -16,10 +16,9 @@ use Rattle.board.specs.declared.Board.{Board}
 use Rattle.board.specs.Edits.{rowsOf, soundOf}
 use Rattle.image.specs.declared.Body.{Body}
 use Rattle.built.specs.Room.{refusal9}
-use Rattle.forest.specs.Nodes.{nodeAt, last, treeSize, parentRank, rootRank}
+use Rattle.forest.specs.Nodes.{nodeAt, last}
 use Rattle.forest.specs.ForestLaws.{node-in}
-use Rattle.paths.specs.Forest.{memb}
-use Rattle.nodes.specs.Bodies.{minutesOf, runningTotals, body}
+use Rattle.nodes.specs.Bodies.{runningTotals, body}
 use Rattle.nodes.specs.BodyLaws.{shown-row}
 use Rattle.nodes.specs.BoundLaws.{minutes-fit}
 use Rattle.shortest.specs.Shortest.{Kept, shortest, shortestBodies, shortestLeftRows, shortestRefusal, shortestBuilt, shortestIndex, shortestTotals}
@@ -30,8 +29,8 @@ use Rattle.answers.specs.AnswerLaws.{first-step}
 use Rattle.answers.specs.DescribedLaws.{Described, closed-described}
 use Rattle.answers.specs.Answers.{DistancesAtMostZero, LinksByLevel}
 use Rattle.index_check.specs.IndexCheck.{accepts}
-use Rattle.guarantee.specs.Builds.{NodeList, BodyOf, Refused}
-use Rattle.guarantee.specs.KindLaws.{Outcome, answerWhen, indexWhen, totalsWhen, zeroed, Fitting, kind-build, when-none, checked-here, levels-here, distances-here}
+use Rattle.guarantee.specs.Builds.{NodeList, BodyOf}
+use Rattle.guarantee.specs.KindLaws.{Outcome, answerWhen, indexWhen, totalsWhen, unsound-refused, Fitting, kind-build, when-none, checked-here, levels-here, distances-here}
 use Rattle.guarantee.specs.ShortestBuilds.{keptNodes, ShortestRefusal, ShortestBuild, ShortestOn, UnsoundShortest}
 use Rattle.guarantee.specs.SentenceLaws.{ninth}
 
@@ -112,6 +111,4 @@ pub unsound-shortest : (b : Board) → UnsoundShortest b
 unfolding shortestRefusal shortestBuilt shortestIndex shortestTotals
 unsound-shortest b unsound rule list index totals =
     let o = outcome (rowsOf b) (startRule rule list) in
-    let q : ℕ = cond (refusal9 (length (o .W)) (length index) (length totals)) 9 0 in
-    subst (λ t. let n : ℕ = cond t q 1 in (n ≡ 1) × Refused (answerWhen o n (eqb n 0)) index (indexWhen o index (eqb n 0)) totals (totalsWhen o totals (eqb n 0))) (sym unsound)
-    (refl, zeroed o 1 index totals)
+    unsound-refused o (soundOf b) (cond (refusal9 (length (o .W)) (length index) (length totals)) 9 0) unsound index totals

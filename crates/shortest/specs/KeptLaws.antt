@@ -2,22 +2,22 @@
 -- over the rows that end them. Assumes nothing.
 use mathlib.Core.Path.{_≡_, refl, sym, ap, ap₂, subst, _∙_}
 use mathlib.Core.Logic.{_⊎_, inl, inr, ⊎-elim, _≢_, _↔_}
-use mathlib.Core.Bool.{Bool, true, false, not, _&&_}
+use mathlib.Core.Bool.{Bool, not, _&&_}
 use mathlib.Core.List.{List, [], _∷_, _++_, map, append-nil}
 use Prim.Native.Nat.{ℕ, zero, suc, _+_, _-_, _≤_, _<_}
 use native.Mathlib.Omega.{arith}
 use native.Mathlib.Decide.{decLt}
-use lib.Dec.{T, T-not, not-T, eqb, eqb→eq}
+use lib.Dec.{T-not, not-T, eqb, eqb→eq}
 use lib.ListN.{length, getD, length-append, length-map, List·getD-append}
 use Rattle.lists.specs.Lists.{_∈_, filter, Increasing}
-use Rattle.lists.specs.MemberLaws.{eq→eqb, and-out, and-in, map-in, map-out, filter-in, filter-out, append-out, append-left, append-right, getD-in, place-of, getD-append-right, increasing-filter, increasing-map, increasing-weaken, pigeonhole}
+use Rattle.lists.specs.MemberLaws.{eq→eqb, and-out, and-in, map-in, map-out, filter-in, filter-out, append-out, getD-in, place-of, getD-append-right, increasing-filter, increasing-map, pigeonhole}
 use Rattle.paths.specs.Forest.{memb, children, forest}
 use Rattle.forest.specs.Nodes.{init, last, Before}
 use Rattle.forest.specs.BeginningLaws.{before-asym}
 use Rattle.paths.specs.ForestLaws.{memb-in, memb-out, Path, path-one, sound, complete, ordered}
 use Rattle.paths.specs.EmitLaws.{last-snoc}
 use Rattle.shortest.specs.BreadthLayer.{fresh, spread}
-use Rattle.shortest.specs.BreadthLaws.{fresh-out, fresh-rising, fresh-apart, fresh-covers, Apart, Covered, Going, going-start, going-end, spread-keeps, spread-map}
+use Rattle.shortest.specs.BreadthLaws.{fresh-out, fresh-rising, fresh-apart, fresh-covers, Apart, Covered, Going, going-start, going-end, spread-keeps}
 use Rattle.shortest.specs.Shortest.{Sooner}
 
 -- ---- a path and one row more

@@ -3,12 +3,9 @@ use mathlib.Core.Path.{_≡_, refl}
 use mathlib.Core.Bool.{false}
 use mathlib.Core.List.{List, [], _∷_}
 use Prim.Native.Nat.{ℕ}
-use lib.IntN.{ℤ, pos}
-use lib.ListN.{replicate}
-use Rattle.lists.specs.Lists.{sort, insert, front}
+use lib.IntN.{pos}
+use Rattle.lists.specs.Lists.{sort, insert}
 use Rattle.rows.specs.declared.Row.{Row}
-use Rattle.board.specs.Edits.{emptyOf, soundOf, rowsOf}
-use Rattle.options.specs.declared.Depth.the-variants.{None}
 use Rattle.options.specs.Options.{levelLimit}
 use Rattle.image.specs.declared.Body.{Body}
 use Rattle.image.specs.Sample.{printed}

@@ -2,7 +2,7 @@
 -- they are no more than the rows; the bodies are what one walk over the rows that end them writes. Assumes nothing.
 use mathlib.Core.Path.{_≡_, refl, sym, ap, ap₂, subst, _∙_}
 use mathlib.Core.Logic.{_⊎_, inl, inr, ⊎-elim, _≢_, _↔_}
-use mathlib.Core.Bool.{Bool, true, false, cond, not, _&&_}
+use mathlib.Core.Bool.{Bool, false, cond, not, _&&_}
 use mathlib.Core.List.{List, [], _∷_, _++_, map, append-nil}
 use Prim.Native.Nat.{ℕ, suc, _≤_, _<_}
 use native.Mathlib.Omega.{arith}
@@ -37,7 +37,7 @@ use Rattle.nodes.specs.BodyWalkLaws.{closes-is}
 use Rattle.shortest.specs.BreadthLayer.{fresh, spread, rowsUnder, keptStarts, keptRows, hangingRows}
 use Rattle.shortest.specs.BreadthLaws.{fresh-rising, spread-map}
 use Rattle.shortest.specs.Shortest.{fewestRows, firstShortest, Sooner, reached, Kept, pathsTo, shortest, shortestBodies, shortestLeftRows}
-use Rattle.shortest.specs.KeptLaws.{snoc-view, snoc-length, sooner-trans, sooner-asym, Differ, differ-last, found, found-is, found-once, found-from, found-reach, found-differ, hanging, masked-is, masked-rises}
+use Rattle.shortest.specs.KeptLaws.{snoc-view, sooner-trans, sooner-asym, Differ, differ-last, found, found-is, found-once, found-from, found-reach, found-differ, hanging, masked-is, masked-rises}
 
 -- ---- the path with fewest rows, and among those the first
 
