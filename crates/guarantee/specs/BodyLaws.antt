@@ -13,9 +13,6 @@ use Rattle.lists.specs.MemberLaws.{getD-in, getD-append-right}
 use Rattle.rows.specs.declared.Row.{Row}
 use Rattle.options.specs.declared.Depth.{Depth}
 use Rattle.image.specs.declared.Body.{Body}
-use Rattle.image.specs.Layout.{bodyOf}
-use Rattle.image.specs.ImageLaws.{body-read}
-use Rattle.image.specs.ImageLayer.{HoldsImage}
 use Rattle.paths.specs.Rows.{num}
 use Rattle.paths.specs.Paths.{last, closes, Orphan, Regular}
 use Rattle.paths.specs.Nodes.{regular, orphanNodes}
@@ -24,9 +21,9 @@ use Rattle.islands.specs.Islands.{joined, shownRow}
 use Rattle.nodes.specs.Nodes.{AnyOrphanNode, entriesOf, withEntries, entryNodes, nodes}
 use Rattle.nodes.specs.Bodies.{nodeAt, treeSize, parentRank, rootRank, orphanCloses, bodies}
 use Rattle.nodes.specs.NodeLaws.{nodes-are, orphans-are, nodes-ordered, nodes-forest, regular-apart}
-use Rattle.nodes.specs.BodyLaws.{nodes-split, bodies-length, bodies-map, body-field, body-regular, body-orphan}
+use Rattle.nodes.specs.BodyLaws.{nodes-split, bodies-map, body-field, body-regular, body-orphan}
 use Rattle.nodes.specs.ParentLaws.{Allowed, nodes-closed}
-use Rattle.nodes.specs.BoundLaws.{node-bounded, level-fits}
+use Rattle.nodes.specs.BoundLaws.{node-bounded}
 use Rattle.answers.specs.DescribedLaws.{Described, closed-described}
 use Rattle.guarantee.specs.Builds.{NodeList, BodyOf}
 use Rattle.guarantee.specs.Guarantee.{Closing, pathNodes}
@@ -125,14 +122,3 @@ module _ (R : List Row) (starts : Row → Bool) (depth : Depth) (o : Orphan) whe
 
   pub short : length R ≤ 1024 → (p : List ℕ) → p ∈ nodes R starts depth o → length p < 65536
   short few p m = omega (arith, node-bounded R starts depth o p (nodes-are R starts depth o p .0 m))
-
-  -- and is what the words of an index say
-  module _ {s : List ℕ} (h : HoldsImage s (bodies R starts depth o)) (few : length R ≤ 1024) (k : ℕ) (low : 1 ≤ k) (high : k ≤ length (nodes R starts depth o)) where
-    body-here : (d : Body) → bodyOf s k ≡ getD (bodies R starts depth o) (k - 1) d
-    body-here d =
-        let l = bodies-length R starts depth o in
-        let f = level-fits R starts depth o few (getD (bodies R starts depth o) (k - 1) d) (getD-in (bodies R starts depth o) (k - 1) d (omega arith)) in
-        body-read h k d low (omega arith) (omega arith)
-
-    pub read-of : BodyOf (pathNodes R starts depth o (entriesOf R starts depth o)) (nodes R starts depth o) (nodeAt (nodes R starts depth o) k) (bodyOf s k)
-    read-of = subst (BodyOf (pathNodes R starts depth o (entriesOf R starts depth o)) (nodes R starts depth o) (nodeAt (nodes R starts depth o) k)) (sym (body-here (bodyOf s k))) (body-of k (bodyOf s k) low high)

@@ -12,7 +12,7 @@ use borrow.Author.Tests.{eq-eqb, ne-eqb, eqb-true, eqb-false}
 use Rattle.lists.specs.Lists.{_∈_, numbers, Increasing, insert, sort}
 use Rattle.lists.specs.MemberLaws.{and-out, and-in, or-out, or-right, filter-in, filter-out, map-in, map-out, numbers-in, numbers-out, insert-out, sort-out}
 use Rattle.forest.specs.Nodes.{last, Before, begins}
-use Rattle.forest.specs.BeginningLaws.{begins-length}
+use Rattle.forest.specs.BeginningLaws.{before-trans, begins-length}
 use Rattle.levels.specs.Levelled.{isBlank, cellBefore, lineBefore, filledColumns, filledBeginnings}
 
 -- ---- cells
@@ -66,19 +66,10 @@ cell-total a b n = go (ℕ-discrete a 0) (ℕ-discrete b 0) (decLt a b)
 abbrev pub Upto : List ℕ → List ℕ → Type 0
 Upto l m = (l ≡ m) ⊎ Before Cell l m
 
-pub before-trans : (l m n : List ℕ) → Before Cell l m → Before Cell m n → Before Cell l n
-before-trans l m [] b c = absurd c
-before-trans l [] (z ∷ n) b c = absurd b
-before-trans [] (y ∷ m) (z ∷ n) b c = tt
-before-trans (x ∷ l) (y ∷ m) (z ∷ n) (inl u) (inl v) = inl (cell-trans x y z u v)
-before-trans (x ∷ l) (y ∷ m) (z ∷ n) (inl u) (inr v) = inl (subst (Cell x) (v .0) u)
-before-trans (x ∷ l) (y ∷ m) (z ∷ n) (inr u) (inl v) = inl (subst (λ w. Cell w z) (sym (u .0)) v)
-before-trans (x ∷ l) (y ∷ m) (z ∷ n) (inr u) (inr v) = inr (u .0 ∙ v .0, before-trans l m n (u .1) (v .1))
-
 pub upto-trans : (l m n : List ℕ) → Upto l m → Upto m n → Upto l n
 upto-trans l m n (inl e) q = subst (λ w. Upto w n) (sym e) q
 upto-trans l m n (inr b) (inl e) = inr (subst (Before Cell l) e b)
-upto-trans l m n (inr b) (inr c) = inr (before-trans l m n b c)
+upto-trans l m n (inr b) (inr c) = inr (before-trans Cell cell-trans l m n b c)
 
 pub line-yes : (l m : List ℕ) → T (lineBefore l m) → Before Cell l m
 unfolding lineBefore

@@ -13,7 +13,7 @@ use Rattle.lists.specs.Lists.{_∈_, filter, Increasing}
 use Rattle.lists.specs.MemberLaws.{eq→eqb, and-out, and-in, map-in, map-out, filter-in, filter-out, append-out, getD-in, place-of, getD-append-right, increasing-filter, increasing-map, pigeonhole}
 use Rattle.paths.specs.Forest.{memb, children, forest}
 use Rattle.forest.specs.Nodes.{init, last, Before}
-use Rattle.forest.specs.BeginningLaws.{before-asym}
+use Rattle.forest.specs.BeginningLaws.{before-asym, before-trans}
 use Rattle.paths.specs.ForestLaws.{memb-in, memb-out, Path, path-one, sound, complete, ordered}
 use Rattle.paths.specs.EmitLaws.{last-snoc}
 use Rattle.shortest.specs.BreadthLayer.{fresh, spread}
@@ -60,20 +60,11 @@ module _ (lt : ℕ → ℕ → Type 0) where
   sooner-longer p q x y (inl h) = inl (omega (arith, snoc-length p x, snoc-length q y))
   sooner-longer p q x y (inr b) = inr (omega (arith, snoc-length p x, snoc-length q y, b .0), before-longer p q (x ∷ []) (y ∷ []) (b .0) (b .1))
 
-  pub before-trans : ((x y z : ℕ) → lt x y → lt y z → lt x z) → (p q r : List ℕ) → Before lt p q → Before lt q r → Before lt p r
-  before-trans trans p q [] b c = absurd c
-  before-trans trans [] q (z ∷ r) b c = tt
-  before-trans trans (x ∷ p) [] (z ∷ r) b c = absurd b
-  before-trans trans (x ∷ p) (y ∷ q) (z ∷ r) (inl a) (inl c) = inl (trans x y z a c)
-  before-trans trans (x ∷ p) (y ∷ q) (z ∷ r) (inl a) (inr c) = inl (subst (lt x) (c .0) a)
-  before-trans trans (x ∷ p) (y ∷ q) (z ∷ r) (inr b) (inl c) = inl (subst (λ w. lt w z) (sym (b .0)) c)
-  before-trans trans (x ∷ p) (y ∷ q) (z ∷ r) (inr b) (inr c) = inr (b .0 ∙ c .0, before-trans trans p q r (b .1) (c .1))
-
   pub sooner-trans : ((x y z : ℕ) → lt x y → lt y z → lt x z) → (p q r : List ℕ) → Sooner lt p q → Sooner lt q r → Sooner lt p r
   sooner-trans trans p q r (inl a) (inl b) = inl (omega arith)
   sooner-trans trans p q r (inl a) (inr b) = inl (omega (arith, b .0))
   sooner-trans trans p q r (inr a) (inl b) = inl (omega (arith, a .0))
-  sooner-trans trans p q r (inr a) (inr b) = inr (a .0 ∙ b .0, before-trans trans p q r (a .1) (b .1))
+  sooner-trans trans p q r (inr a) (inr b) = inr (a .0 ∙ b .0, before-trans lt trans p q r (a .1) (b .1))
 
   pub sooner-asym : ((x y : ℕ) → lt x y → lt y x → ⊥) → (p q : List ℕ) → Sooner lt p q → Sooner lt q p → ⊥
   sooner-asym asym p q (inl a) (inl b) = omega arith
