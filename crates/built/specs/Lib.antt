@@ -1,2 +1,4 @@
 pub mod Room
 pub mod RefusedLayer
+pub mod OutcomeLayer
+pub mod OutcomeLaws

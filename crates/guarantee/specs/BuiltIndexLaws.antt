@@ -17,7 +17,8 @@ use Rattle.nodes.specs.ParentLaws.{nodes-closed}
 use Rattle.index_check.specs.IndexCheck.{accepts}
 use Rattle.answers.specs.Answers.{DistancesAtMostZero, LinksByLevel}
 use Rattle.request.specs.Build.{buildRefusal, builtOf, indexAfter}
-use Rattle.guarantee.specs.KindLaws.{Outcome, indexWhen, Fitting, checked-here, levels-here, distances-here, when-none}
+use Rattle.built.specs.OutcomeLayer.{Outcome, indexWhen}
+use Rattle.guarantee.specs.KindLaws.{Fitting, checked-here, levels-here, distances-here, when-none}
 use Rattle.guarantee.specs.GuaranteeLaws.{outcome, allowed, fitting, sound-few}
 
 -- no refusal 1, and none after it

@@ -28,6 +28,7 @@ use Rattle.islands.specs.Entries.{islands}
 use Rattle.nodes.specs.Nodes.{entriesOf, withEntries, nodes}
 use Rattle.nodes.specs.Bodies.{runningTotals, bodies, leftRows, leftOf}
 use Rattle.nodes.specs.Refusals.{orphanChoice, refusal7, refusal8, refusalOf}
+use Rattle.nodes.specs.OutcomeLayer.{pathsOutcome}
 use Rattle.nodes.specs.NodeLaws.{entries-joining, nodes-forest}
 use Rattle.nodes.specs.BodyLaws.{bodies-length, left-is}
 use Rattle.nodes.specs.RefusalLaws.{accepted}
@@ -35,7 +36,8 @@ use Rattle.nodes.specs.ParentLaws.{Allowed}
 use Rattle.nodes.specs.BoundLaws.{joined-fit}
 use Rattle.nodes.specs.LeftLaws.{accepted-leaves-none}
 use Rattle.request.specs.Build.{startRule, buildRefusal, builtOf, indexAfter, totalsAfter}
-use Rattle.guarantee.specs.KindLaws.{Outcome, answerWhen, indexWhen, totalsWhen, unsound-refused, Fitting, kind-build}
+use Rattle.built.specs.OutcomeLayer.{Outcome, answerWhen, indexWhen, totalsWhen}
+use Rattle.guarantee.specs.KindLaws.{unsound-refused, Fitting, kind-build}
 use Rattle.guarantee.specs.Guarantee.{buildNodes, BuildRefusal, PathBuild, BuildOn, RowsFit, SoundBuild, SoundShortest, UnsoundBuild, Guarantee}
 use Rattle.guarantee.specs.BodyLaws.{node-list, body-of, described, short}
 use Rattle.guarantee.specs.SentenceLaws.{first-sentence}
@@ -71,7 +73,7 @@ module _ (R : List Row) (code : ℕ) (depth : Depth) (starts : Row → Bool) whe
   es = entriesOf R starts depth o
 
   abbrev pub outcome : Outcome
-  outcome = record { W = W; bs = bodies R starts depth o; running = runningTotals (withEntries R starts depth o) W; left = leftOf R starts depth o }
+  outcome = pathsOutcome R starts depth (orphanChoice (orphanOf code))
 
   left-increasing : Increasing _<_ (leftRows R starts depth o)
   unfolding leftRows

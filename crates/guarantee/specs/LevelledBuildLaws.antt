@@ -26,7 +26,8 @@ use Rattle.answers.specs.Answers.{DistancesAtMostZero, LinksByBeginnings}
 use Rattle.answers.specs.AnswerLaws.{first-step, less}
 use Rattle.answers.specs.DescribedLaws.{Described, levelled}
 use Rattle.guarantee.specs.Builds.{NodeList, BodyOf}
-use Rattle.guarantee.specs.KindLaws.{Outcome, answerWhen, indexWhen, totalsWhen, Fitting, checked-here, beginnings-here, distances-here, when-none, kind-build}
+use Rattle.built.specs.OutcomeLayer.{Outcome, answerWhen, indexWhen, totalsWhen}
+use Rattle.guarantee.specs.KindLaws.{Fitting, checked-here, beginnings-here, distances-here, when-none, kind-build}
 use Rattle.guarantee.specs.LevelledBuilds.{levelledKind, LevelledRefusal, LevelledBuild, AnyLevelledBuild}
 use Rattle.guarantee.specs.SentenceLaws.{one-of, equal, unequal, ninth}
 

@@ -33,7 +33,7 @@ use Rattle.navigate.specs.Climb.{climbFrom, stuckFrom, ancestorsAnswer, ancesto
 use Rattle.sums.specs.Sums.{beyond, subtreeAnswer}
 use Rattle.built.specs.declared.Built.{Built}
 use Rattle.request.specs.Build.{buildRefusal, builtOf, indexAfter, totalsAfter}
-use Rattle.guarantee.specs.KindLaws.{answerWhen, indexWhen, totalsWhen}
+use Rattle.built.specs.OutcomeLayer.{answerWhen, indexWhen, totalsWhen}
 use Rattle.guarantee.specs.GuaranteeLaws.{outcome}
 use Rattle.guarantee.specs.Marked.{lines, builtIndex, builtTotals, MarkedCases}
 

@@ -22,6 +22,7 @@ use Rattle.nodes.specs.Bodies.{runningTotals, body}
 use Rattle.nodes.specs.BodyLaws.{shown-row}
 use Rattle.nodes.specs.BoundLaws.{minutes-fit}
 use Rattle.shortest.specs.Shortest.{Kept, shortest, shortestBodies, shortestLeftRows, shortestRefusal, shortestBuilt, shortestIndex, shortestTotals}
+use Rattle.shortest.specs.OutcomeLayer.{shortestOutcome}
 use Rattle.shortest.specs.ShortestLaws.{shortest-is, shortest-increasing, shortest-forest, shortest-closed, shortest-few, kept-once, kept-reaches, kept-open, kept-row, bodies-map, left-is}
 use Rattle.paths.specs.PathLaws.{path-bounded}
 use Rattle.request.specs.Build.{startRule}
@@ -30,7 +31,8 @@ use Rattle.answers.specs.DescribedLaws.{Described, closed-described}
 use Rattle.answers.specs.Answers.{DistancesAtMostZero, LinksByLevel}
 use Rattle.index_check.specs.IndexCheck.{accepts}
 use Rattle.guarantee.specs.Builds.{NodeList, BodyOf}
-use Rattle.guarantee.specs.KindLaws.{Outcome, answerWhen, indexWhen, totalsWhen, unsound-refused, Fitting, kind-build, when-none, checked-here, levels-here, distances-here}
+use Rattle.built.specs.OutcomeLayer.{Outcome, answerWhen, indexWhen, totalsWhen}
+use Rattle.guarantee.specs.KindLaws.{unsound-refused, Fitting, kind-build, when-none, checked-here, levels-here, distances-here}
 use Rattle.guarantee.specs.ShortestBuilds.{keptNodes, ShortestRefusal, ShortestBuild, ShortestOn, UnsoundShortest}
 use Rattle.guarantee.specs.SentenceLaws.{ninth}
 
@@ -42,7 +44,7 @@ module _ (R : List Row) (starts : Row → Bool) where
   bs = shortestBodies R starts
 
   abbrev pub outcome : Outcome
-  outcome = record { W = shortest R starts; bs = shortestBodies R starts; running = runningTotals R (shortest R starts); left = length (shortestLeftRows R starts) }
+  outcome = shortestOutcome R starts
 
   node-list : NodeList (keptNodes R starts) W
   node-list = record { holds = shortest-is R starts; order = shortest-increasing R starts }

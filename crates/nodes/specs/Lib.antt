@@ -1,6 +1,7 @@
 pub mod Nodes
 pub mod Bodies
 pub mod Refusals
+pub mod OutcomeLayer
 pub mod NodeLaws
 pub mod BodyLaws
 pub mod BlockLaws

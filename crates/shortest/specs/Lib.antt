@@ -1,4 +1,5 @@
 pub mod Shortest
+pub mod OutcomeLayer
 pub mod BreadthLayer
 pub mod BreadthLaws
 pub mod KeptLaws
