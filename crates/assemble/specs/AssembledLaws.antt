@@ -35,6 +35,8 @@ use Rattle.nodes.specs.BoundLaws.{bodies-bounded, numeral-of, named}
 use Rattle.built.specs.declared.Built.{Built}
 use Rattle.request.specs.Build.{answerOf}
 use Rattle.built.specs.RefusedLayer.{refusedBy}
+use Rattle.built.specs.OutcomeLaws.{attempt-refused}
+use Rattle.nodes.specs.OutcomeLayer.{pathsOutcome}
 use Rattle.table.specs.TableLayer.{rowColumn, parentColumn, numeralColumn, classColumn}
 use Rattle.walk.specs.WalkLayer.{Walked, Clear}
 use Rattle.finish.specs.FinishLayer.{leftOver, lateRefusal, lateAnswer, bodyMinutes, BodiesOver, NodesWritten, Classes, Finished}
@@ -48,18 +50,9 @@ use Rattle.refusals.specs.TestsLaws.{capacity-fits, capacity-over, capacity-bou
 use Rattle.assemble.specs.AssembledLayer.{RowsBuilt}
 use Rattle.assemble.specs.StartLaws.{lacks-start}
 
--- ---- a refusal and its answer
+-- ---- the first refusal that applies
 
 module _ (R : List Row) (code : ℕ) (depth : Depth) (start : Row → Bool) (words totals : ℕ) where
-  pub refused-answer : (q : ℕ) → refusalOf R code depth start words totals ≡ q → (q ≡ 0 → ⊥) → refusedBy q ≡ answerOf R code depth start (refusalOf R code depth start words totals)
-  refused-answer q e n =
-      let f : eqb (refusalOf R code depth start words totals) 0 ≡ false = ne-eqb (refusalOf R code depth start words totals) 0 (λ z. n (sym e ∙ z)) in
-      λ i. record {
-        refusal = sym e i;
-        nodes = sym (ap (λ (t : Bool). cond t (length (nodes R start depth (orphanChoice (orphanOf code)))) 0) f) i;
-        left = sym (ap (λ (t : Bool). cond t (leftOf R start depth (orphanChoice (orphanOf code))) 0) f) i;
-      }
-
   module _ (six : refusal6 code ≡ false) (seven : refusal7 (orphanOf code) depth ≡ false) where
     bs : List Body
     bs = bodies R start depth (orphanChoice (orphanOf code))
@@ -121,11 +114,7 @@ module _ (R : List Row) (code : ℕ) (depth : Depth) (start : Row → Bool) (t :
       (early-met (lacksStart (choice .orphan) t) (length index) (length totals) (λ z. some (q-is ∙ z)))
     where
       refused : refusalOf R code depth start (length index) (length totals) ≡ q → RowsBuilt R code depth start index index′ totals totals′ r
-      refused f = record {
-        answer = e ∙ refused-answer R code depth start (length index) (length totals) q f some;
-        index-is = λ y. absurd (some (sym f ∙ y));
-        totals-are = λ y. absurd (some (sym f ∙ y));
-      }
+      refused f = attempt-refused (pathsOutcome R start depth (orphanChoice (orphanOf code))) index index′ totals totals′ r (refusalOf R code depth start (length index) (length totals)) q f some e
 
 -- refusal 7 reads the choice, and the choice is that of the code
 pub seven-is : (code : ℕ) (choice : Choice) (depth : Depth) → choice ≡ choiceOf code → refusal7 (orphanOf code) depth ≡ refusal7 (choice .orphan) depth
@@ -228,12 +217,8 @@ module _ (R : List Row) (code : ℕ) (depth : Depth) (start : Row → Bool) (ind
 
   pub nodes-nine : refusal9 (length (bodies R start depth (orphanChoice (choice .orphan)))) (length index) (length totals) ≡ true → r ≡ refusedBy 9 → RowsBuilt R code depth start index index′ totals totals′ r
   nodes-nine nine e =
-      let f = by-nine R code depth start (length index) (length totals) six seven eight (ap (λ (l : List Body). refusal9 (length l) (length index) (length totals)) (sym same-nodes) ∙ nine) in
-      record {
-        answer = e ∙ refused-answer R code depth start (length index) (length totals) 9 f (λ z. absurd (omega arith));
-        index-is = λ z. let q : _≡_ {A = ℕ} 9 0 = sym f ∙ z in absurd (omega arith);
-        totals-are = λ z. let q : _≡_ {A = ℕ} 9 0 = sym f ∙ z in absurd (omega arith);
-      }
+      attempt-refused (pathsOutcome R start depth (orphanChoice (orphanOf code))) index index′ totals totals′ r (refusalOf R code depth start (length index) (length totals)) 9
+      (by-nine R code depth start (length index) (length totals) six seven eight (ap (λ (l : List Body). refusal9 (length l) (length index) (length totals)) (sym same-nodes) ∙ nine)) (λ z. absurd (omega arith)) e
 
   pub nodes-finished : refusal9 (length (bodies R start depth (orphanChoice (choice .orphan)))) (length index) (length totals) ≡ false
       → Finished R choice (bodies R start depth (orphanChoice (choice .orphan))) index index′ totals totals′ r → RowsBuilt R code depth start index index′ totals totals′ r
@@ -260,6 +245,3 @@ module _ (R : List Row) (code : ℕ) (depth : Depth) (start : Row → Bool) (ind
         nodes = cond (eqb (late-code i) 0) (bodies-length R start depth (orphanChoice (orphanOf code)) i) 0;
         left = cond (eqb (late-code i) 0) (sym (left-bodies R start depth (orphanChoice (orphanOf code))) i) 0;
       }
-
-pub zeros-long : (n : ℕ) (l : List ℕ) → l ≡ replicate n 0 → n ≤ length l
-zeros-long n l e = omega (arith, ap length e, length-replicate {A = ℕ} n 0)
