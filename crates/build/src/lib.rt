@@ -2,7 +2,7 @@
 ghost use mathlib.Core.Path.{_≡_};
 ghost use lib.ListN.{length};
 ghost use Rattle.request.specs.Build.{startRule, builtOf, indexAfter, totalsAfter, defaultCode, defaultDepth, defaultStart};
-ghost use Rattle.build.specs.AttemptedLayer.{Attempted};
+ghost use Rattle.build.specs.AttemptedLayer.{PathsAttempted};
 use board::Board;
 use built::Built;
 use options::Depth;
@@ -18,7 +18,7 @@ fn attempt(
     index: &mut [u32],
     totals: &mut [i64],
 ) -> Built
-    ensures { λ r. ⌜ Attempted board code depth (startRule start (now (list .entry))) (now (index .entry)) (now (index .exit)) (now (totals .entry)) (now (totals .exit)) r ⌝ }
+    ensures { λ r. ⌜ PathsAttempted board code depth (startRule start (now (list .entry))) (now (index .entry)) (now (index .exit)) (now (totals .entry)) (now (totals .exit)) r ⌝ }
 {
     if !board.sound() {
         return built::refused(1);
@@ -50,12 +50,7 @@ pub fn build(
     ensures { λ _. ⌜ now (totals .exit) ≡ totalsAfter board code depth (startRule start (now (list .entry))) (length (now (index .entry))) (now (totals .entry)) ⌝ }
 {
     let built = attempt(board, code, depth, start, list, index, totals);
-    if built.refusal == 0 {
-        return built;
-    }
-    lists::clear(index);
-    lists::clear_i64(totals);
-    built
+    built::settle(built, index, totals)
 }
 
 // The build by default: code 0, no depth, the rows with parent 0.

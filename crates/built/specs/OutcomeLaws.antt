@@ -1,9 +1,10 @@
 -- A build that was attempted, and then cleared where it was refused, is as its refusal says. Assumes nothing.
-use mathlib.Core.Path.{_≡_, sym, ap, ap₂, subst, _∙_}
+use mathlib.Core.Path.{_≡_, refl, sym, ap, ap₂, subst, _∙_}
 use mathlib.Core.Logic.{_≢_}
 use mathlib.Core.Bool.{Bool, cond}
 use mathlib.Core.List.{List}
 use Prim.Native.Nat.{ℕ}
+use native.Mathlib.Decide.{ℕ-discrete}
 use lib.Dec.{eqb}
 use lib.IntN.{ℤ, pos}
 use lib.ListN.{length, replicate}
@@ -13,6 +14,13 @@ use Rattle.image.specs.Layout.{imageWords}
 use Rattle.built.specs.declared.Built.{Built}
 use Rattle.built.specs.RefusedLayer.{refusedBy}
 use Rattle.built.specs.OutcomeLayer.{Outcome, answerWhen, indexWhen, totalsWhen, Attempted}
+
+-- one of two by a refusal
+pub when-none : {A : Type 0} (x y : A) (q : ℕ) → q ≡ 0 → x ≡ cond (eqb q 0) x y
+when-none x y q e = sym (ap (λ t. cond t x y) (eq-eqb q 0 e))
+
+pub when-some : {A : Type 0} (x y z : A) (q : ℕ) → q ≢ 0 → z ≡ y → z ≡ cond (eqb q 0) x y
+when-some x y z q n e = e ∙ sym (ap (λ t. cond t x y) (ne-eqb q 0 n))
 
 module _ (o : Outcome) (index index′ : List ℕ) (totals totals′ : List ℤ) (r : Built) where
   -- refused by a number
@@ -31,18 +39,19 @@ module _ (o : Outcome) (index index′ : List ℕ) (totals totals′ : List ℤ)
     refusal-is : r .refusal ≡ q
     refusal-is = ap (λ (x : Built). x .refusal) (a .answer)
 
-    pub accepted-index : r .refusal ≡ 0 → index′ ≡ indexWhen o index (eqb q 0)
-    accepted-index e =
-        let z = sym refusal-is ∙ e in
-        a .index-is z ∙ sym (ap (indexWhen o index) (eq-eqb q 0 z))
+    -- once it is settled
+    pub settled-index : (index″ : List ℕ) → length index′ ≡ length index → index″ ≡ cond (eqb (r .refusal) 0) index′ (replicate (length index′) 0) → index″ ≡ indexWhen o index (eqb q 0)
+    settled-index index″ l e =
+        e ∙ ap₂ (λ k n. cond (eqb k 0) index′ (replicate n 0)) refusal-is l ∙ go (ℕ-discrete q 0)
+      where
+        go : Dec (q ≡ 0) → cond (eqb q 0) index′ (replicate (length index) 0) ≡ indexWhen o index (eqb q 0)
+        go (yes z) = sym (when-none index′ (replicate (length index) 0) q z) ∙ a .index-is z ∙ when-none (front (imageWords (o .bs)) index) (replicate (length index) 0) q z
+        go (no n) = sym (when-some index′ (replicate (length index) 0) (replicate (length index) 0) q n refl) ∙ when-some (front (imageWords (o .bs)) index) (replicate (length index) 0) (replicate (length index) 0) q n refl
 
-    pub accepted-totals : r .refusal ≡ 0 → totals′ ≡ totalsWhen o totals (eqb q 0)
-    accepted-totals e =
-        let z = sym refusal-is ∙ e in
-        a .totals-are z ∙ sym (ap (totalsWhen o totals) (eq-eqb q 0 z))
-
-    pub refused-index : r .refusal ≢ 0 → (zeros : List ℕ) → zeros ≡ replicate (length index) 0 → zeros ≡ indexWhen o index (eqb q 0)
-    refused-index some zeros e = e ∙ sym (ap (indexWhen o index) (ne-eqb q 0 (λ z. some (refusal-is ∙ z))))
-
-    pub refused-totals : r .refusal ≢ 0 → (zeros : List ℤ) → zeros ≡ replicate (length totals) (pos 0) → zeros ≡ totalsWhen o totals (eqb q 0)
-    refused-totals some zeros e = e ∙ sym (ap (totalsWhen o totals) (ne-eqb q 0 (λ z. some (refusal-is ∙ z))))
+    pub settled-totals : (totals″ : List ℤ) → length totals′ ≡ length totals → totals″ ≡ cond (eqb (r .refusal) 0) totals′ (replicate (length totals′) (pos 0)) → totals″ ≡ totalsWhen o totals (eqb q 0)
+    settled-totals totals″ l e =
+        e ∙ ap₂ (λ k n. cond (eqb k 0) totals′ (replicate n (pos 0))) refusal-is l ∙ go (ℕ-discrete q 0)
+      where
+        go : Dec (q ≡ 0) → cond (eqb q 0) totals′ (replicate (length totals) (pos 0)) ≡ totalsWhen o totals (eqb q 0)
+        go (yes z) = sym (when-none totals′ (replicate (length totals) (pos 0)) q z) ∙ a .totals-are z ∙ when-none (front (o .running) totals) (replicate (length totals) (pos 0)) q z
+        go (no n) = sym (when-some totals′ (replicate (length totals) (pos 0)) (replicate (length totals) (pos 0)) q n refl) ∙ when-some (front (o .running) totals) (replicate (length totals) (pos 0)) (replicate (length totals) (pos 0)) q n refl

@@ -4,7 +4,7 @@ use Rattle.board.specs.Laws.{sound-count}
 use Rattle.options.specs.Options.{Named}
 use Rattle.options.specs.OptionLaws.{taken-apart}
 use Rattle.assemble.specs.AssembledLaws.{seven-is}
-use Rattle.build.specs.BuildLaws.{by-six, by-seven, attempt-sound, attempt-unsound, attempt-built, attempt-as, sound-numbered}
+use Rattle.build.specs.BuildLaws.{by-six, by-seven, attempt-sound, attempt-unsound, attempt-built, sound-numbered}
 use borrow.Author.Needs.{needs}
 use native.Mathlib.Omega.{arith}
 use Rattle.build.proofs.attempt.Statement.{statement}
@@ -19,7 +19,7 @@ refused-requires c κs = search needs
 returns : tie.Need-returns
 returns c =
     let u = sym (c .before .before .sound .ensures) ∙ not-true (c .before .before .sound .result) (c .before .if1 .taken) in
-    attempt-as _ _ _ _ _ _ _ _ 1 _ (c .refused .ensures) (attempt-unsound _ _ _ _ _ _ _ _ u)
+    attempt-unsound _ _ _ _ _ _ _ _ _ u (c .refused .ensures)
 
 refused-requires-2 : tie.Need-refused-requires-2
 refused-requires-2 c κs = search needs
@@ -27,7 +27,7 @@ refused-requires-2 c κs = search needs
 returns-2 : tie.Need-returns-2
 returns-2 c =
     let y = sym (c .before .before .before .sound .ensures) ∙ not-false (c .before .before .before .sound .result) (c .before .before .if1 .left) in
-    attempt-as _ _ _ _ _ _ _ _ 6 _ (c .refused2 .ensures) (attempt-sound _ _ _ _ _ _ _ _ 6 y (by-six _ _ _ _ _ _ (lt-ltb 23 (c .before .before .before .before .before .before .args .code) (omega (arith, c .before .if2 .taken)))) (λ z. absurd (omega arith)))
+    attempt-sound _ _ _ _ _ _ _ _ _ 6 y (by-six _ _ _ _ _ _ (lt-ltb 23 (c .before .before .before .before .before .before .args .code) (omega (arith, c .before .if2 .taken)))) (λ z. absurd (omega arith)) (c .refused2 .ensures)
 
 choices-requires : tie.Need-choices-requires
 choices-requires c κs = search needs
@@ -42,7 +42,7 @@ returns-3 : tie.Need-returns-3
 returns-3 c =
     let y = sym (c .before .before .before .before .before .before .sound .ensures) ∙ not-false (c .before .before .before .before .before .before .sound .result) (c .before .before .before .before .before .if1 .left) in
     let seven = seven-is (c .before .before .before .before .before .before .before .before .before .args .code) _ (c .before .before .before .before .before .before .before .before .before .args .depth) (c .before .before .before .choices .ensures) ∙ sym (c .before .before .is-depth-refused .ensures) ∙ c .before .if3 .taken in
-    attempt-as _ _ _ _ _ _ _ _ 7 _ (c .refused3 .ensures) (attempt-sound _ _ _ _ _ _ _ _ 7 y (by-seven _ _ _ _ _ _ (le-ltb 23 (c .before .before .before .before .before .before .before .before .before .args .code) (omega (arith, c .before .before .before .before .if2 .left))) seven) (λ z. absurd (omega arith)))
+    attempt-sound _ _ _ _ _ _ _ _ _ 7 y (by-seven _ _ _ _ _ _ (le-ltb 23 (c .before .before .before .before .before .before .before .before .before .args .code) (omega (arith, c .before .before .before .before .if2 .left))) seven) (λ z. absurd (omega arith)) (c .refused3 .ensures)
 
 build-rows-requires : tie.Need-build-rows-requires
 build-rows-requires c κs =
