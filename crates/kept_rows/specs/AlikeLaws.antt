@@ -3,62 +3,19 @@
 use mathlib.Core.Path.{_≡_, refl, sym, ap, ap₂, subst, _∙_}
 use mathlib.Core.Logic.{_⊎_, inl, inr, ⊎-elim, _↔_}
 use mathlib.Core.Bool.{Bool, true, false, cond, _||_}
-use mathlib.Core.List.{List, [], _∷_, _++_, map, append-assoc, append-nil}
+use mathlib.Core.List.{List, [], _∷_, _++_, map}
 use Prim.Native.Nat.{ℕ, zero, suc, _<_}
 use lib.Dec.{T, eqb, eqb→eq}
 use lib.ListN.{length, getD}
 use Rattle.rows.specs.declared.Row.{Row}
-use Rattle.lists.specs.Lists.{_∈_, Increasing}
+use Rattle.lists.specs.Lists.{_∈_}
 use Rattle.lists.specs.MemberLaws.{eq→eqb, same-test, map-append, append-out, append-right}
 use Rattle.paths.specs.Forest.{memb}
 use Rattle.paths.specs.Rows.{num}
 use Rattle.paths.specs.Nodes.{starts}
 use Rattle.shortest.specs.BreadthLayer.{fresh, spread, rowsUnder, keptStarts, keptRows}
 use Rattle.kept_rows.specs.KeptRowsLayer.{rowsAt}
-use Rattle.kept_rows.specs.BreadthLaws.{fresh-out}
-
--- each of the first part stands before each of the second
-pub increasing-across : {A : Type 0} (lt : A → A → Type 0) (l m : List A) → Increasing lt (l ++ m) → (x y : A) → x ∈ l → y ∈ m → lt x y
-increasing-across lt [] m i x y a b = absurd a
-increasing-across lt (z ∷ l) m i x y (inl e) b = subst (λ w. lt w y) (sym e) (i .0 y (append-right l m y b))
-increasing-across lt (z ∷ l) m i x y (inr a) b = increasing-across lt l m (i .1) x y a b
-
-whole : {A : Type 0} (l : List A) (x : A) (m n : List A) → (l ++ x ∷ []) ++ (m ++ n) ≡ (l ++ x ∷ m) ++ n
-whole l x m n = append-assoc l (x ∷ []) (m ++ n) ∙ sym (append-assoc l (x ∷ m) n)
-
-module _ {A : Type 0} (key : A → ℕ) (kids : A → List A) where
-  -- what is met stays in front
-  pub spread-more : (f : ℕ) (D Q : List A) → (rest : List A) × (spread key kids f D Q ≡ (D ++ Q) ++ rest)
-  unfolding spread
-  spread-more zero D Q = ([], sym (append-nil (D ++ Q)))
-  spread-more (suc f) D [] = ([], sym (append-nil (D ++ []) ∙ append-nil D))
-  spread-more (suc f) D (x ∷ Q) =
-      let new = fresh key (map key (D ++ x ∷ Q)) (kids x) in
-      let r = spread-more f (D ++ x ∷ []) (Q ++ new) in
-      (new ++ r .0, r .1 ∙ ap (λ l. l ++ r .0) (whole D x Q new) ∙ append-assoc (D ++ x ∷ Q) new (r .0))
-
-  -- what is found was met at first, or something leads to it
-  pub spread-from : (In : A → Type 0) → ((x : A) → In x → (y : A) → y ∈ kids x → In y) → (f : ℕ) (D Q : List A) → ((y : A) → y ∈ (D ++ Q) → In y)
-      → (y : A) → y ∈ spread key kids f D Q → (y ∈ (D ++ Q)) ⊎ ((x : A) × In x × (y ∈ kids x))
-  unfolding spread
-  spread-from In kids-in zero D Q i y m = inl m
-  spread-from In kids-in (suc f) D [] i y m = inl (subst (λ l. y ∈ l) (sym (append-nil D)) m)
-  spread-from In kids-in (suc f) D (x ∷ Q) i y m = ⊎-elim parted inr (spread-from In kids-in f (D ++ x ∷ []) (Q ++ new) more y m)
-    where
-      new : List A
-      new = fresh key (map key (D ++ x ∷ Q)) (kids x)
-
-      here : In x
-      here = i x (append-right D (x ∷ Q) x (inl refl))
-
-      out : (z : A) → z ∈ ((D ++ x ∷ []) ++ (Q ++ new)) → (z ∈ (D ++ x ∷ Q)) ⊎ (z ∈ kids x)
-      out z k = ⊎-elim inl (λ h. inr (fresh-out key (map key (D ++ x ∷ Q)) (kids x) z h .0)) (append-out (D ++ x ∷ Q) new z (subst (λ l. z ∈ l) (whole D x Q new) k))
-
-      more : (z : A) → z ∈ ((D ++ x ∷ []) ++ (Q ++ new)) → In z
-      more z k = ⊎-elim (i z) (kids-in x here z) (out z k)
-
-      parted : y ∈ ((D ++ x ∷ []) ++ (Q ++ new)) → (y ∈ (D ++ x ∷ Q)) ⊎ ((x : A) × In x × (y ∈ kids x))
-      parted k = ⊎-elim inl (λ h. inr (x, here, h)) (out y k)
+use Rattle.shortest.specs.BreadthLaws.{snoc-append, fresh-out}
 
 module _ {A B : Type 0} (key : A → ℕ) (key′ : B → ℕ) (g : A → B) (In : A → Type 0) (alike : (x y : A) → In x → In y → (key x ≡ key y) ↔ (key′ (g x) ≡ key′ (g y))) where
   -- the same things were seen
@@ -109,7 +66,7 @@ module _ {A B : Type 0} (key : A → ℕ) (key′ : B → ℕ) (g : A → B) (In
         more : (y : A) → y ∈ ((D ++ x ∷ []) ++ (Q ++ new)) → In y
         more y m =
             ⊎-elim (i y) (λ k. kids-in x here y (fresh-out key (map key (D ++ x ∷ Q)) (kids x) y k .0))
-            (append-out (D ++ x ∷ Q) new y (subst (λ l. y ∈ l) (whole D x Q new) m))
+            (append-out (D ++ x ∷ Q) new y (subst (λ l. y ∈ l) (snoc-append D x Q new) m))
 
 -- the positions that the search over positions finds are those of the kept rows
 module _ (R : List Row) (start : Row → Bool) (row class : List ℕ) (long : length class ≡ length R)

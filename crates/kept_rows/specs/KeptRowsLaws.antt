@@ -38,8 +38,8 @@ use Rattle.enumerate.specs.EnumerateLayer.{outside}
 use Rattle.enumerate.specs.EnumerateLaws.{all-starts}
 use Rattle.enumerate.specs.OrphanLaws.{row-named, row-count, prepared-few, prepared-walkable, prepared-listed, outside-kept, outside-walkable, outside-listed}
 use Rattle.kept_rows.specs.KeptRowsLayer.{classOf, Searchable, Seen, Met, Leads, Searched, RowsAt, rowsAt, othersMarked, Flagged, KeptLinked}
-use Rattle.kept_rows.specs.BreadthLaws.{fresh-rising}
-use Rattle.kept_rows.specs.AlikeLaws.{increasing-across, spread-more, spread-from, kept-starts-found, kept-rows-found}
+use Rattle.shortest.specs.BreadthLaws.{increasing-cross, spread-more, spread-from, fresh-rising}
+use Rattle.kept_rows.specs.AlikeLaws.{kept-starts-found, kept-rows-found}
 use Rattle.kept_rows.specs.SearchLaws.{take-none, queue-inside}
 use Rattle.kept_rows.specs.MaskLaws.{others-at}
 
@@ -203,7 +203,7 @@ module _ (R : List Row) (start : Row → Bool) (t : List ℕ) (ready : Prepared 
     starts-stay = sym (take-take tops finish queue₂ (s .grows)) ∙ ap (take tops) in-two ∙ take-at tops-at rest tops starts-long
 
     apart : (p q : ℕ) → p ∈ tops-at → q ∈ hanging-at → getD class p 0 ≢ getD class q 0
-    apart = increasing-across (λ p q. classOf class p ≢ classOf class q) tops-at hanging-at (subst (Increasing (λ p q. classOf class p ≢ classOf class q)) parted (s .seen .apart))
+    apart = increasing-cross (λ p q. classOf class p ≢ classOf class q) tops-at hanging-at (subst (Increasing (λ p q. classOf class p ≢ classOf class q)) parted (s .seen .apart))
 
     hanging-in : (q : ℕ) → q ∈ hanging-at → q < length class
     hanging-in q k = s .seen .inside q (subst (λ l. q ∈ l) (sym parted) (append-right tops-at hanging-at q k))

@@ -1,6 +1,5 @@
 pub mod KeptRowsLayer
 pub mod SearchLaws
 pub mod MaskLaws
-pub mod BreadthLaws
 pub mod AlikeLaws
 pub mod KeptRowsLaws

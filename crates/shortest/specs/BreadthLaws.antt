@@ -14,13 +14,13 @@ use Rattle.paths.specs.Forest.{memb}
 use Rattle.paths.specs.ForestLaws.{memb-in, memb-out}
 use Rattle.shortest.specs.BreadthLayer.{fresh, spread}
 
--- one after another, in a list in two parts
-increasing-cross : {A : Type 0} (lt : A → A → Type 0) (l m : List A) → Increasing lt (l ++ m) → (x y : A) → x ∈ l → y ∈ m → lt x y
+-- each of the first part stands before each of the second
+pub increasing-cross : {A : Type 0} (lt : A → A → Type 0) (l m : List A) → Increasing lt (l ++ m) → (x y : A) → x ∈ l → y ∈ m → lt x y
 increasing-cross lt [] m i x y a b = absurd a
 increasing-cross lt (z ∷ l) m i x y (inl e) b = subst (λ w. lt w y) (sym e) (i .0 y (append-right l m y b))
 increasing-cross lt (z ∷ l) m i x y (inr a) b = increasing-cross lt l m (i .1) x y a b
 
-snoc-append : {A : Type 0} (l : List A) (x : A) (m n : List A) → (l ++ x ∷ []) ++ (m ++ n) ≡ (l ++ x ∷ m) ++ n
+pub snoc-append : {A : Type 0} (l : List A) (x : A) (m n : List A) → (l ++ x ∷ []) ++ (m ++ n) ≡ (l ++ x ∷ m) ++ n
 snoc-append l x m n = append-assoc l (x ∷ []) (m ++ n) ∙ sym (append-assoc l (x ∷ m) n)
 
 module _ {A : Type 0} (key : A → ℕ) where
@@ -71,14 +71,43 @@ module _ {A : Type 0} (key : A → ℕ) where
           ⊎-elim (λ k. ⊎-elim (λ d. inr (x, inl refl, sym d, inr (i .0 c h))) (λ d. inl d) k) (λ r. inr (more r)) (rec (key x ∷ seen) h)
 
 module _ {A : Type 0} (key : A → ℕ) (kids : A → List A) where
-  -- what is met stays
-  pub spread-keeps : (f : ℕ) (D Q : List A) (y : A) → y ∈ (D ++ Q) → y ∈ spread key kids f D Q
+  -- what is met stays in front
+  pub spread-more : (f : ℕ) (D Q : List A) → (rest : List A) × (spread key kids f D Q ≡ (D ++ Q) ++ rest)
   unfolding spread
-  spread-keeps zero D Q y m = m
-  spread-keeps (suc f) D [] y m = subst (λ l. y ∈ l) (append-nil D) m
-  spread-keeps (suc f) D (x ∷ Q) y m =
+  spread-more zero D Q = ([], sym (append-nil (D ++ Q)))
+  spread-more (suc f) D [] = ([], sym (append-nil (D ++ []) ∙ append-nil D))
+  spread-more (suc f) D (x ∷ Q) =
       let new = fresh key (map key (D ++ x ∷ Q)) (kids x) in
-      spread-keeps f (D ++ x ∷ []) (Q ++ new) y (subst (λ l. y ∈ l) (sym (snoc-append D x Q new)) (append-left (D ++ x ∷ Q) new y m))
+      let r = spread-more f (D ++ x ∷ []) (Q ++ new) in
+      (new ++ r .0, r .1 ∙ ap (λ l. l ++ r .0) (snoc-append D x Q new) ∙ append-assoc (D ++ x ∷ Q) new (r .0))
+
+  pub spread-keeps : (f : ℕ) (D Q : List A) (y : A) → y ∈ (D ++ Q) → y ∈ spread key kids f D Q
+  spread-keeps f D Q y m =
+      let r = spread-more f D Q in
+      subst (λ l. y ∈ l) (sym (r .1)) (append-left (D ++ Q) (r .0) y m)
+
+  -- what is found was met at first, or something leads to it
+  pub spread-from : (In : A → Type 0) → ((x : A) → In x → (y : A) → y ∈ kids x → In y) → (f : ℕ) (D Q : List A) → ((y : A) → y ∈ (D ++ Q) → In y)
+      → (y : A) → y ∈ spread key kids f D Q → (y ∈ (D ++ Q)) ⊎ ((x : A) × In x × (y ∈ kids x))
+  unfolding spread
+  spread-from In kids-in zero D Q i y m = inl m
+  spread-from In kids-in (suc f) D [] i y m = inl (subst (λ l. y ∈ l) (sym (append-nil D)) m)
+  spread-from In kids-in (suc f) D (x ∷ Q) i y m = ⊎-elim parted inr (spread-from In kids-in f (D ++ x ∷ []) (Q ++ new) more y m)
+    where
+      new : List A
+      new = fresh key (map key (D ++ x ∷ Q)) (kids x)
+
+      here : In x
+      here = i x (append-right D (x ∷ Q) x (inl refl))
+
+      out : (z : A) → z ∈ ((D ++ x ∷ []) ++ (Q ++ new)) → (z ∈ (D ++ x ∷ Q)) ⊎ (z ∈ kids x)
+      out z k = ⊎-elim inl (λ h. inr (fresh-out key (map key (D ++ x ∷ Q)) (kids x) z h .0)) (append-out (D ++ x ∷ Q) new z (subst (λ l. z ∈ l) (snoc-append D x Q new) k))
+
+      more : (z : A) → z ∈ ((D ++ x ∷ []) ++ (Q ++ new)) → In z
+      more z k = ⊎-elim (i z) (kids-in x here z) (out z k)
+
+      parted : y ∈ ((D ++ x ∷ []) ++ (Q ++ new)) → (y ∈ (D ++ x ∷ Q)) ⊎ ((x : A) × In x × (y ∈ kids x))
+      parted k = ⊎-elim inl (λ h. inr (x, here, h)) (out y k)
 
   module _ (lt : A → A → Type 0) (Good : A → Type 0) (S : List A)
       (good : (x : A) → x ∈ S → Good x) (good-kids : (x y : A) → Good x → y ∈ kids x → Good y)
