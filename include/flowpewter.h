@@ -5,9 +5,10 @@
  * is three nodes, each with all that is below it. A build writes the nodes into an index, in the order of their ranks,
  * which begin at 1: a node comes before the nodes below it, and siblings by their order, then by their numeral, then by
  * their row number, the smaller first. Rows that no path from a start row reaches are orphans: they are left over, or
- * have paths of their own (FLOWPEWTER_ORPHAN_ADOPT, FLOWPEWTER_ORPHAN_ROOT). An index is also built from a levelled
- * list, whose columns are levels, as large makers send it (flowpewter_build_levelled). The other calls look into an
- * index by rank. docs/INDEX-FORMAT.md has examples, word by word.
+ * have paths of their own (FLOWPEWTER_ORPHAN_ADOPT, FLOWPEWTER_ORPHAN_ROOT). For a list of numerals, another build has
+ * each numeral once, where it is closest to a start row (flowpewter_build_shortest). An index is also built from a
+ * levelled list, whose columns are levels, as large makers send it (flowpewter_build_levelled). The other calls look
+ * into an index by rank. docs/INDEX-FORMAT.md has examples, word by word.
  *
  * Link with target/staticlib/libflowpewter.a, which `rt staticlib flowpewter` makes. It is compiled for x86-64 Linux
  * (System V calls, any x86-64 processor, position-independent) and for nothing else; of the C library it takes memcpy,
@@ -193,7 +194,7 @@ typedef struct flowpewter_replayed {
  * of it stays. 101, 102, 103. */
 flowpewter_replayed flowpewter_replay(const uint32_t *words, size_t words_len, uint32_t *refusals, size_t refusals_len);
 
-/* ---- builds; refusals 1 and 6 to 12, of levelled lists 18, 19 and 9 */
+/* ---- builds; refusals 1 and 6 to 12, of the shortest placement 1 and 9, of levelled lists 18, 19 and 9 */
 
 /* The index: a table of contents, then a body for each node, in the order of their ranks. */
 enum {
@@ -262,8 +263,8 @@ enum {
 typedef struct flowpewter_built {
     uint32_t refusal;
     uint32_t nodes;
-    uint32_t left; /* rows that end no node, 0 where orphans aren't ignored; of a levelled list the lines wholly
-                      blank */
+    uint32_t left; /* rows that end no node, 0 where orphans aren't ignored; of the shortest placement also rows whose
+                      numeral stands by another row; of a levelled list the lines wholly blank */
 } flowpewter_built;
 
 /* Builds the index of the board's paths, and the running totals of their minutes: 0, then the minutes added node by
@@ -279,6 +280,18 @@ flowpewter_built flowpewter_build(flowpewter_board board, uint32_t code, bool ha
 /* The same with code 0, no depth, paths starting from rows with parent 0. */
 flowpewter_built flowpewter_build_default(flowpewter_board board, uint32_t *index, size_t index_len, int64_t *totals,
                                           size_t totals_len);
+
+/* Builds the index of the board's shortest placement: each numeral that a path from a start row reaches once, as close
+ * to a start row as it can stand. Words and totals beyond stay. 1, 9.
+ *
+ * Of all paths of any length that end with a row of the numeral, the one with fewest rows is kept, and of several the
+ * first by rank: by the first row in which they differ, the one that comes first among siblings. The nodes are the kept
+ * paths; every beginning of a kept path is one too. No node closes and orphans are left over, so that all flags are 0;
+ * there are at most as many nodes as rows, and all that is below a node or summed is over the kept paths alone. A row
+ * ends no node where no path reaches it, or where its numeral stands by another row. The start rule is that of
+ * flowpewter_build. */
+flowpewter_built flowpewter_build_shortest(flowpewter_board board, bool by_list, const uint32_t *list, size_t list_len,
+                                           uint32_t *index, size_t index_len, int64_t *totals, size_t totals_len);
 
 enum {
     FLOWPEWTER_MAX_WIDTH = 8,  /* most cells of a line */

@@ -59,6 +59,25 @@ static void builds_that_read_no_list(void) {
     }
 }
 
+static void shortest_placements(void) {
+    const uint32_t short_slice = FLOWPEWTER_REFUSED_TOO_MANY_NODES;
+    const flowpewter_board none = flowpewter_empty();
+    refused("placement, no words and no totals",
+            flowpewter_build_shortest(one, false, NULL, 0, NULL, 0, NULL, 0).refusal, short_slice);
+    refused("placement, no totals",
+            flowpewter_build_shortest(one, true, NULL, 0, words, WORDS, NULL, 0).refusal, short_slice);
+    refused("placement, no words",
+            flowpewter_build_shortest(one, false, NULL, 0, NULL, 0, totals, TOTALS).refusal, short_slice);
+    refused("placement of an empty board",
+            flowpewter_build_shortest(none, true, NULL, 0, NULL, 0, NULL, 0).refusal, short_slice);
+
+    flowpewter_built built = flowpewter_build_shortest(one, true, NULL, 0, words, WORDS, totals, TOTALS);
+    expect("placement from no numerals", built.refusal == 0 && built.nodes == 0 && built.left == 1);
+    built = flowpewter_build_shortest(one, false, NULL, 0, words, WORDS, totals, TOTALS);
+    expect("placement that reads no list", built.refusal == 0 && built.nodes == 1 && built.left == 0);
+    expect("index of a placement", flowpewter_index_check(words, WORDS));
+}
+
 static void builds_of_no_lines(void) {
     const uint32_t short_slice = FLOWPEWTER_REFUSED_TOO_MANY_NODES;
     const uint32_t not_whole = FLOWPEWTER_REFUSED_NOT_WHOLE_LINES;
@@ -129,6 +148,7 @@ int main(void) {
     builds_into_nothing();
     builds_from_no_numerals();
     builds_that_read_no_list();
+    shortest_placements();
     builds_of_no_lines();
     lines_into_nothing();
     navigation_of_nothing();

@@ -100,6 +100,13 @@ static void build_by_list(void) {
     answer = built.nodes;
 }
 
+static void build_shortest(void) {
+    static const uint32_t start[] = {1};
+    flowpewter_built built = flowpewter_build_shortest(board, true, start, 1, words, WORDS, totals, TOTALS);
+    refusal = built.refusal;
+    answer = built.nodes;
+}
+
 static void build_levelled(void) {
     flowpewter_built built = flowpewter_build_levelled(cells, CELLS, FLOWPEWTER_MAX_WIDTH, wide_words, WIDE_WORDS,
                                                        wide_totals, WIDE_TOTALS);
@@ -162,6 +169,7 @@ static const struct job {
     {"replay", replay, 0, NODES - 1},
     {"build_default", build, 0, NODES},
     {"build", build_by_list, 0, NODES},
+    {"build_shortest", build_shortest, 0, NODES},
     {"build_levelled", build_levelled, 0, CELLS},
     {"span", span, 0, FLOWPEWTER_BODY * NODES},
     {"descendants", descendants, 0, NODES},

@@ -1,4 +1,5 @@
-/* How many drawing minutes hang under numeral 40? A pump whose valve, numeral 40, is shown in three places. */
+/* How many drawing minutes hang under numeral 40? A pump whose valve, numeral 40, is shown in three places. Then the
+ * numeral list beside figure 1, in which it stands once. */
 #include "flowpewter.h"
 #include <inttypes.h>
 #include <stdio.h>
@@ -58,5 +59,22 @@ int main(void) {
         }
     }
     printf("%" PRId64 " drawing minutes hang under numeral 40\n", minutes);
+
+    /* Each numeral as close to the pump as it can stand: the valve beside it, with spring, seat and seal. */
+    built = flowpewter_build_shortest(board, false, NULL, 0, index, index_len, totals, totals_len);
+    if (built.refusal != 0) {
+        return refused(built.refusal);
+    }
+    printf("beside figure 1: %" PRIu32 " numerals, %" PRIu32 " rows left over\n", built.nodes, built.left);
+    for (uint32_t rank = 1; rank <= built.nodes; rank++) {
+        const uint32_t *body = index + FLOWPEWTER_BODY_AT(rank);
+        const int level = (int)(body[FLOWPEWTER_BODY_LEVEL] & FLOWPEWTER_LEVEL_MASK);
+        printf("%*s%" PRIu32 "\n", 4 * level, "", body[FLOWPEWTER_BODY_NUMERAL]);
+    }
+    flowpewter_summed once = flowpewter_subtree_sum(index, index_len, totals, totals_len, 1);
+    if (once.refusal != 0) {
+        return refused(once.refusal);
+    }
+    printf("%" PRId64 " drawing minutes, each numeral drawn once\n", once.sum);
     return 0;
 }

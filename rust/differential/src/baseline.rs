@@ -2,8 +2,9 @@
 //!
 //! Links and an explicit stack: rows of one numeral are a class, the children of a class are a range of the rows in
 //! sibling order, and a mark per class tells whether it stands on the path. Which numerals are on rings is found for all
-//! at once, by strongly connected components. The lines of a levelled list are sorted as arrays of their width, and each
-//! is compared with the one before. Nothing is allocated.
+//! at once, by strongly connected components. The shortest placement is a breadth-first search over classes; its queue
+//! gives all tree sizes backwards and all ranks forwards, without a walk. The lines of a levelled list are sorted as
+//! arrays of their width, and each is compared with the one before. Nothing is allocated.
 
 use flowpewter::sys::{Built, Edited, Listed};
 use flowpewter::{
@@ -157,7 +158,7 @@ struct Links {
 }
 
 impl Links {
-    #[inline]
+    #[inline(always)]
     fn new(rows: &[Row]) -> (Links, [u32; MAX_ROWS], usize) {
         let mut links = Links {
             class_of: [0; MAX_ROWS],
@@ -207,6 +208,12 @@ impl Links {
             }
         }
         (links, numerals, classes)
+    }
+
+    /// The same as a call: where the search follows, the compiler moves the arrays about otherwise.
+    #[inline(never)]
+    fn called(rows: &[Row]) -> (Links, [u32; MAX_ROWS], usize) {
+        Links::new(rows)
     }
 }
 
@@ -466,6 +473,31 @@ fn on_rings(
     ringed
 }
 
+/// Marks the start rows. `start` is none for parent 0.
+#[inline(always)]
+fn mark_starts(
+    rows: &[Row],
+    links: &Links,
+    numerals: &[u32],
+    start: Option<&[u32]>,
+    starts: &mut [bool; MAX_ROWS],
+) {
+    match start {
+        None => rows.iter().zip(starts).for_each(|(row, start)| *start = row.parent == 0),
+        Some(list) => {
+            let mut listed = [false; MAX_ROWS];
+            for numeral in list {
+                if let Ok(class) = numerals.binary_search(numeral) {
+                    listed[class] = true;
+                }
+            }
+            for (place, start) in starts[..rows.len()].iter_mut().enumerate() {
+                *start = listed[links.class_of[place] as usize];
+            }
+        }
+    }
+}
+
 fn refuse(refusal: u32, index: &mut [u32], totals: &mut [i64]) -> Built {
     index.fill(0);
     totals.fill(0);
@@ -508,22 +540,8 @@ fn attempt(
     }
     let rows = board.held();
     let (links, numerals, classes) = Links::new(rows);
-
     let mut starts = [false; MAX_ROWS];
-    match start {
-        None => rows.iter().zip(&mut starts).for_each(|(row, start)| *start = row.parent == 0),
-        Some(list) => {
-            let mut listed = [false; MAX_ROWS];
-            for numeral in list {
-                if let Ok(class) = numerals[..classes].binary_search(numeral) {
-                    listed[class] = true;
-                }
-            }
-            for (place, start) in starts[..rows.len()].iter_mut().enumerate() {
-                *start = listed[links.class_of[place] as usize];
-            }
-        }
-    }
+    mark_starts(rows, &links, &numerals[..classes], start, &mut starts);
     let siblings = &links.siblings[..rows.len()];
     let last_start = siblings.iter().rev().find(|place| starts[**place as usize]);
     if orphan == 2 && last_start.is_none() && !rows.is_empty() {
@@ -614,6 +632,147 @@ fn attempt(
     let (nodes, check) = (walk.count as u32, walk.check);
     contents.copy_from_slice(&[nodes, 8, 6, check, 0, 0, 0, 0]);
     Ok(Built { refusal: 0, nodes, left: left as u32 })
+}
+
+/// A path that the shortest placement keeps, in the order met: fewer rows first, and among as many in path order.
+#[derive(Clone, Copy)]
+struct Kept {
+    /// Place of its last row.
+    place: u16,
+    /// Where the path without its last row stands in the queue, from 1; 0 for a root.
+    above: u16,
+    level: u16,
+    size: u16,
+    root: u16,
+    rank: u16,
+    /// Rank of the next child.
+    next: u16,
+}
+
+impl Kept {
+    const EMPTY: Kept = Kept { place: 0, above: 0, level: 0, size: 0, root: 0, rank: 0, next: 0 };
+}
+
+/// The kept paths, and which classes they reach.
+struct Search {
+    queue: [Kept; MAX_ROWS],
+    count: usize,
+    met: [bool; MAX_ROWS],
+}
+
+impl Search {
+    const EMPTY: Search =
+        Search { queue: [Kept::EMPTY; MAX_ROWS], count: 0, met: [false; MAX_ROWS] };
+
+    /// Keeps a path to the row, unless one to its class is kept.
+    #[inline(always)]
+    fn meet(&mut self, links: &Links, place: u16, above: u16, level: u16) {
+        let met = &mut self.met[links.class_of[place as usize] as usize];
+        if !*met {
+            *met = true;
+            self.queue[self.count] = Kept { place, above, level, size: 1, ..Kept::EMPTY };
+            self.count += 1;
+        }
+    }
+
+    /// Breadth first from the start rows.
+    #[inline(always)]
+    fn run(&mut self, links: &Links, siblings: &[u16], starts: &[bool; MAX_ROWS]) {
+        for &place in siblings.iter().filter(|place| starts[**place as usize]) {
+            self.meet(links, place, 0, 1);
+        }
+        let mut at = 0;
+        while at < self.count {
+            let Kept { place, level, .. } = self.queue[at];
+            at += 1;
+            let class = links.class_of[place as usize] as usize;
+            let children = links.begin[class] as usize..links.begin[class + 1] as usize;
+            for &child in &links.sorted[children] {
+                self.meet(links, child, at as u16, level + 1);
+            }
+        }
+    }
+
+    /// Tree sizes from the last path met to the first, then ranks from the first to the last.
+    #[inline(always)]
+    fn number(&mut self) {
+        for at in (0..self.count).rev() {
+            let Kept { above, size, .. } = self.queue[at];
+            if above != 0 {
+                self.queue[above as usize - 1].size += size;
+            }
+        }
+        let mut next_root = 1;
+        for at in 0..self.count {
+            let Kept { above, size, .. } = self.queue[at];
+            let (rank, root) = if above == 0 {
+                next_root += size;
+                (next_root - size, next_root - size)
+            } else {
+                let above = &mut self.queue[above as usize - 1];
+                above.next += size;
+                (above.next - size, above.root)
+            };
+            let kept = &mut self.queue[at];
+            (kept.rank, kept.root, kept.next) = (rank, root, rank + 1);
+        }
+    }
+}
+
+/// The whole build of the shortest placement, refusals in order. `start` is none for parent 0.
+#[inline(never)]
+pub fn build_shortest(
+    board: &Board,
+    start: Option<&[u32]>,
+    index: &mut [u32],
+    totals: &mut [i64],
+) -> Built {
+    let built = shortest(board, start, index, totals);
+    built.unwrap_or_else(|refusal| refuse(refusal, index, totals))
+}
+
+fn shortest(
+    board: &Board,
+    start: Option<&[u32]>,
+    index: &mut [u32],
+    totals: &mut [i64],
+) -> Result<Built, u32> {
+    if !sound(board) {
+        return Err(1);
+    }
+    let rows = board.held();
+    let (links, numerals, classes) = Links::called(rows);
+    let mut starts = [false; MAX_ROWS];
+    mark_starts(rows, &links, &numerals[..classes], start, &mut starts);
+    let mut search = Search::EMPTY;
+    search.run(&links, &links.siblings[..rows.len()], &starts);
+    let nodes = search.count;
+    if index.len() < CONTENTS + BODY * nodes || totals.len() <= nodes {
+        return Err(9);
+    }
+    search.number();
+
+    let (contents, bodies) = index.split_at_mut(CONTENTS);
+    let bodies = &mut bodies.as_chunks_mut::<BODY>().0[..nodes];
+    let totals = &mut totals[..=nodes];
+    totals[0] = 0;
+    for kept in &search.queue[..nodes] {
+        let Row { numeral, minutes, .. } = rows[kept.place as usize];
+        let parent = if kept.above == 0 { 0 } else { search.queue[kept.above as usize - 1].rank };
+        let [size, parent, root, level] =
+            [kept.size, parent, kept.root, kept.level].map(|word| word as u32);
+        bodies[kept.rank as usize - 1] =
+            [numeral, kept.place as u32 + 1, size, parent, root, level];
+        totals[kept.rank as usize] = minutes as i64;
+    }
+    let mut total = 0;
+    for own in totals {
+        total += *own;
+        *own = total;
+    }
+    let check = bodies.as_flattened().iter().fold(0u32, |sum, word| sum.wrapping_add(*word));
+    contents.copy_from_slice(&[nodes as u32, 8, 6, check, 0, 0, 0, 0]);
+    Ok(Built { refusal: 0, nodes: nodes as u32, left: (rows.len() - nodes) as u32 })
 }
 
 /// The whole build of a levelled list, refusals in order.

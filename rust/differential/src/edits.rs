@@ -27,7 +27,8 @@ fn held(machine: &Machine) -> Vec<Row> {
     machine.rows.iter().copied().map(row).collect()
 }
 
-fn edit(board: &Board, call: Call) -> Edited {
+/// The library's edit.
+pub fn edit(board: &Board, call: Call) -> Edited {
     match call {
         Call::Add(added) => sys::add(board, row(added)),
         Call::Withdraw(k) => sys::withdraw(board, k),
@@ -108,7 +109,7 @@ impl Followed {
     }
 
     /// The same call until it is refused.
-    fn to_the_end(&mut self, call: Call, name: &'static str, tally: &mut Tally) {
+    fn until_refused(&mut self, call: Call, name: &'static str, tally: &mut Tally) {
         let mut refusal = 0;
         while refusal == 0 {
             refusal = self.call(call);
@@ -128,9 +129,9 @@ pub fn histories(random: &mut Random, kind: History, tally: &mut Tally) {
     if builds::edited(random, &followed.reference, tally) {
         tally.reach("history that ends in islands");
     }
-    followed.to_the_end(Call::Undo, "undo to the bottom", tally);
+    followed.until_refused(Call::Undo, "undo to the bottom", tally);
     builds::edited(random, &followed.reference, tally);
-    followed.to_the_end(Call::Redo, "redo to the top", tally);
+    followed.until_refused(Call::Redo, "redo to the top", tally);
     builds::edited(random, &followed.reference, tally);
 }
 
@@ -211,7 +212,7 @@ pub fn replays(random: &mut Random, kind: History, tally: &mut Tally) {
 
     let mut after = lent.clone();
     let replayed = sys::replay(&told, &mut after);
-    let refusal = if told.len() % 5 != 0 {
+    let refusal = if !told.len().is_multiple_of(5) {
         101
     } else if told.chunks(5).any(|call| call[0] > 4) {
         102

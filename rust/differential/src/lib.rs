@@ -11,6 +11,7 @@ pub mod databases;
 pub mod edits;
 pub mod levelled;
 pub mod navigation;
+pub mod shortest;
 pub mod tally;
 
 pub use tally::Tally;

@@ -1,6 +1,6 @@
 //! The guide's examples through the library.
 
-use flowpewter::{build_levelled, build_with_code, Board, Refusal};
+use flowpewter::{build_levelled, build_shortest, build_with_code, Board, Refusal};
 use guide::{Engine, Image};
 use reference::{Row, Start};
 
@@ -12,6 +12,22 @@ fn number(refusal: Refusal) -> u32 {
     refusal.number()
 }
 
+fn holding(rows: &[Row]) -> Result<Board, u32> {
+    let mut board = Board::EMPTY;
+    for row in rows {
+        let row = flowpewter::Row::new(row.parent, row.numeral, row.order, row.minutes);
+        board.add(row).map_err(number)?;
+    }
+    Ok(board)
+}
+
+fn start_rule(start: Start<'_>) -> flowpewter::Start<'_> {
+    match start {
+        Start::ParentZero => flowpewter::Start::ParentZero,
+        Start::Numerals(list) => flowpewter::Start::Numerals(list),
+    }
+}
+
 impl Engine for Library {
     fn build(
         &self,
@@ -20,19 +36,20 @@ impl Engine for Library {
         depth: Option<i32>,
         start: Start,
     ) -> Result<Image, u32> {
-        let mut board = Board::EMPTY;
-        for row in rows {
-            let row = flowpewter::Row::new(row.parent, row.numeral, row.order, row.minutes);
-            board.add(row).map_err(number)?;
-        }
-        let start = match start {
-            Start::ParentZero => flowpewter::Start::ParentZero,
-            Start::Numerals(list) => flowpewter::Start::Numerals(list),
-        };
+        let (board, start) = (holding(rows)?, start_rule(start));
         let mut index = vec![0; flowpewter::index_len(NODES)];
         let mut totals = vec![0; flowpewter::totals_len(NODES)];
         let built =
             build_with_code(&board, code, depth, start, &mut index, &mut totals).map_err(number)?;
+        assert_eq!(built.nodes, index[0]);
+        Ok(Image { index, totals, left: built.left })
+    }
+
+    fn build_shortest(&self, rows: &[Row], start: Start) -> Result<Image, u32> {
+        let (board, start) = (holding(rows)?, start_rule(start));
+        let mut index = vec![0; flowpewter::index_len(NODES)];
+        let mut totals = vec![0; flowpewter::totals_len(NODES)];
+        let built = build_shortest(&board, start, &mut index, &mut totals).map_err(number)?;
         assert_eq!(built.nodes, index[0]);
         Ok(Image { index, totals, left: built.left })
     }

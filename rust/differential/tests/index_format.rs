@@ -1,8 +1,8 @@
 //! The examples of docs/INDEX-FORMAT.md.
 
 use flowpewter::{
-    build_levelled, build_with_code, index_check, index_len, subtree_sum, totals_len, Board, Built,
-    Refusal, Row, Start,
+    build_levelled, build_shortest, build_with_code, index_check, index_len, subtree_sum,
+    totals_len, Board, Built, Refusal, Row, Start,
 };
 
 const PAGE: &str = include_str!("../../../docs/INDEX-FORMAT.md");
@@ -14,13 +14,19 @@ fn block(name: &str) -> Vec<i64> {
     text.split_whitespace().map(|word| word.parse().expect("a number")).collect()
 }
 
+/// A board of the rows of a block.
+fn board(name: &str) -> Result<Board, Refusal> {
+    let mut board = Board::EMPTY;
+    for row in block(name).chunks(4) {
+        board.add(Row::new(row[0] as u32, row[1] as u32, row[2] as u32, row[3] as i32))?;
+    }
+    Ok(board)
+}
+
 /// Builds an example of four nodes: its blocks' names begin with `prefix`, and the
 /// subtree sum of a rank is given in the text.
 fn compare(prefix: &str, rank: u32, sum: i64) -> Result<(), Refusal> {
-    let mut board = Board::EMPTY;
-    for row in block(&format!("{prefix}rows")).chunks(4) {
-        board.add(Row::new(row[0] as u32, row[1] as u32, row[2] as u32, row[3] as i32))?;
-    }
+    let board = board(&format!("{prefix}rows"))?;
     let mut index = [0; index_len(4)];
     let mut totals = [0; totals_len(4)];
     build_with_code(&board, 3, None, Start::ParentZero, &mut index, &mut totals)?;
@@ -39,6 +45,19 @@ fn index_format() -> Result<(), Refusal> {
 #[test]
 fn index_format_with_an_entry() -> Result<(), Refusal> {
     compare("ring-", 2, 5)
+}
+
+#[test]
+fn index_format_of_a_shortest_placement() -> Result<(), Refusal> {
+    let board = board("placed-rows")?;
+    let mut index = [0; index_len(4)];
+    let mut totals = [7; totals_len(4)];
+    let built = build_shortest(&board, Start::ParentZero, &mut index, &mut totals)?;
+    assert_eq!(built, Built { nodes: 4, left: 3 });
+    assert_eq!(index.map(i64::from).to_vec(), block("placed-index"));
+    assert_eq!(totals.to_vec(), block("placed-totals"));
+    assert!(index_check(&index));
+    Ok(())
 }
 
 #[test]

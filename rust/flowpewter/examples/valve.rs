@@ -1,8 +1,10 @@
-//! How many drawing minutes hang under numeral 40? A pump whose valve, numeral 40, is shown in three places.
+//! How many drawing minutes hang under numeral 40? A pump whose valve, numeral 40, is shown in three places. Then the
+//! numeral list beside figure 1, in which it stands once.
 #![forbid(unsafe_code)]
 
 use flowpewter::{
-    bodies, build, index_len, span, subtree_sum, totals_len, Board, Options, Refusal, Row,
+    bodies, build, build_shortest, index_len, span, subtree_sum, totals_len, Board, Options,
+    Refusal, Row, Start,
 };
 
 /// Parent, numeral, order on the sheet, drawing minutes.
@@ -39,5 +41,14 @@ fn main() -> Result<(), Refusal> {
         }
     }
     println!("{minutes} drawing minutes hang under numeral 40");
+
+    // Each numeral as close to the pump as it can stand: the valve beside it, with spring, seat and seal.
+    let built = build_shortest(&board, Start::ParentZero, &mut index, &mut totals)?;
+    println!("beside figure 1: {} numerals, {} rows left over", built.nodes, built.left);
+    for body in bodies(span(&index, 1)?) {
+        println!("{:indent$}{}", "", body.numeral, indent = 4 * body.level as usize);
+    }
+    let once = subtree_sum(&index, &totals, 1)?;
+    println!("{once} drawing minutes, each numeral drawn once");
     Ok(())
 }

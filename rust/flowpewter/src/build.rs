@@ -58,6 +58,16 @@ pub enum Start<'a> {
     Numerals(&'a [u32]),
 }
 
+impl<'a> Start<'a> {
+    /// None for parent 0.
+    pub(crate) fn list(self) -> Option<&'a [u32]> {
+        match self {
+            Start::ParentZero => None,
+            Start::Numerals(list) => Some(list),
+        }
+    }
+}
+
 /// How to build. The default ignores orphans, allows shared numerals, breaks up cycles, has no depth and starts from
 /// rows with parent 0.
 #[derive(Clone, Copy, Debug, PartialEq, Eq, Hash, Default)]
@@ -89,7 +99,8 @@ impl Options<'_> {
 pub struct Built {
     /// Entries of islands among them.
     pub nodes: u32,
-    /// Rows that end no node: 0 with [`Orphan::Adopt`] and [`Orphan::Root`]. Of a levelled list, lines wholly blank.
+    /// Rows that end no node: 0 with [`Orphan::Adopt`] and [`Orphan::Root`]; of the shortest placement also rows whose
+    /// numeral stands by another row. Of a levelled list, lines wholly blank.
     pub left: u32,
 }
 
@@ -167,11 +178,7 @@ pub fn build_with_code(
     index: &mut [u32],
     totals: &mut [i64],
 ) -> Result<Built, Refusal> {
-    let list = match start {
-        Start::ParentZero => None,
-        Start::Numerals(list) => Some(list),
-    };
-    let built = sys::build(board, code, depth, list, index, totals);
+    let built = sys::build(board, code, depth, start.list(), index, totals);
     Refusal::check(built.refusal)?;
     Ok(Built { nodes: built.nodes, left: built.left })
 }

@@ -2,6 +2,7 @@
 //!
 //! * [`Board`]: rows with a parent, a numeral, an order and minutes; add, withdraw, remark, undo and redo.
 //! * [`build`]: the forest of a board's paths as an index, and running totals of the minutes.
+//! * [`build_shortest`]: each numeral of a board once, as close to a start row as it can stand, as such an index.
 //! * [`build_levelled`]: the forest of a levelled list, whose columns are levels, as such an index.
 //! * [`span`], [`descendants`], [`ancestors`], [`siblings`]: navigation by rank.
 //! * [`subtree_sum`], [`path_sum`]: minutes below a node and on the way up from it.
@@ -20,6 +21,7 @@ mod build;
 mod index;
 mod levelled;
 mod refusal;
+mod shortest;
 pub mod sys;
 
 pub use board::{
@@ -32,3 +34,4 @@ pub use index::{
 };
 pub use levelled::{build_levelled, MAX_LINES, MAX_WIDTH};
 pub use refusal::{Refusal, REFUSALS};
+pub use shortest::build_shortest;

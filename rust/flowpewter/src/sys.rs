@@ -101,6 +101,16 @@ extern "C" {
         totals: *mut i64,
         totals_len: usize,
     ) -> Built;
+    fn flowpewter_build_shortest(
+        board: Board,
+        by_list: bool,
+        list: *const u32,
+        list_len: usize,
+        index: *mut u32,
+        index_len: usize,
+        totals: *mut i64,
+        totals_len: usize,
+    ) -> Built;
     fn flowpewter_build_levelled(
         cells: *const u32,
         cells_len: usize,
@@ -216,6 +226,28 @@ pub fn build_default(board: &Board, index: &mut [u32], totals: &mut [i64]) -> Bu
     unsafe {
         flowpewter_build_default(
             *board,
+            index.as_mut_ptr(),
+            index.len(),
+            totals.as_mut_ptr(),
+            totals.len(),
+        )
+    }
+}
+
+/// Start rows are those with parent 0 where there is no list.
+pub fn build_shortest(
+    board: &Board,
+    list: Option<&[u32]>,
+    index: &mut [u32],
+    totals: &mut [i64],
+) -> Built {
+    let numerals = list.unwrap_or(&[]);
+    unsafe {
+        flowpewter_build_shortest(
+            *board,
+            list.is_some(),
+            numerals.as_ptr(),
+            numerals.len(),
             index.as_mut_ptr(),
             index.len(),
             totals.as_mut_ptr(),

@@ -218,23 +218,24 @@ pub fn rows(random: &mut Random, shape: Shape, size: usize) -> Vec<Row> {
         1 if rings => edges.reverse(),
         _ => random.shuffle(&mut edges),
     }
-    rows_of(random, shape, edges)
+    let orders: &[usize] = match shape {
+        Shape::Ties => &[1, 2],
+        Shape::Rings | Shape::Islands => &[1, 1, 3, 1_000],
+        _ => &[1, 3, 1_000],
+    };
+    rows_of(random, orders, edges)
 }
 
-/// Rows of the edges. Labels are the numbers themselves, or far apart up to the
-/// widest word.
-fn rows_of(random: &mut Random, shape: Shape, edges: Vec<(u32, u32)>) -> Vec<Row> {
+/// Rows of the edges, mostly with orders below one of the numbers. Labels are the
+/// numbers themselves, or far apart up to the widest word.
+pub(crate) fn rows_of(random: &mut Random, orders: &[usize], edges: Vec<(u32, u32)>) -> Vec<Row> {
     let far = random.chance(1, 2);
     let label = |number: u32| match number {
         0 => 0,
         number if far => u32::MAX - (number - 1) * 97,
         number => number,
     };
-    let orders = random.pick(match shape {
-        Shape::Ties => &[1, 2],
-        Shape::Rings | Shape::Islands => &[1, 1, 3, 1_000],
-        _ => &[1, 3, 1_000],
-    });
+    let orders = random.pick(orders);
     // Where all minutes are the same, rows of one parent, numeral and order are equal in all fields.
     let same_minutes = random.chance(1, 4).then(|| random.minutes());
     let mut rows: Vec<Row> = edges

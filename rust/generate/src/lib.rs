@@ -1,5 +1,5 @@
-//! Deterministic random cases for boards, builds, levelled lists, navigation, the
-//! index check and the listing program.
+//! Deterministic random cases for boards, builds, shortest placements, levelled lists,
+//! navigation, the index check and the listing program.
 //!
 //! Every generator is a plain function of a [`Random`]; the same seed gives the
 //! same cases. The reference is used only to learn how long a slice a case
@@ -7,8 +7,9 @@
 //! entries of a journal lead to.
 //!
 //! [`ties`] tells which siblings of a built index have equal orders, [`islands`] which
-//! entries were made for rings, and [`levelled`] where lists have blanks and equal
-//! lines, so that tests can count what their cases reach.
+//! entries were made for rings, [`shortest`] what other rows and paths a placed numeral
+//! has, and [`levelled`] where lists have blanks and equal lines, so that tests can count
+//! what their cases reach.
 #![forbid(unsafe_code)]
 
 pub mod boards;
@@ -20,6 +21,7 @@ pub mod levelled;
 pub mod listings;
 pub mod random;
 mod rings;
+pub mod shortest;
 pub mod ties;
 
 pub use boards::{holding, sound_boards, stepped_board, unsound_boards};
@@ -31,3 +33,4 @@ pub use indexes::{index, navigation_case, totals, NavigationCase};
 pub use levelled::{levelled_case, LevelledCase};
 pub use listings::listing;
 pub use random::Random;
+pub use shortest::{shortest_case, ShortestCase};

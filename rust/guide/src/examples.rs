@@ -304,6 +304,72 @@ pub fn s3_1_cycle_breakup(engine: &dyn Engine) {
     );
 }
 
+// 3.2 HIERARCHY_SPANTREE
+
+/// The spanning tree of T_DEMO_ERR.
+///
+/// The guide prints "only the first shortest path between each start and result node": H1 stands
+/// below E2 and below E3. The papers keep each numeral once in all, so that the tree of each start
+/// node is built by itself, over all rows. Its ranks begin at 1; the printed ones are larger by the
+/// nodes of the trees before.
+pub fn s3_2_spanning_tree(engine: &dyn Engine) {
+    let printed = "RANK TREE_SIZE PARENT_RANK ROOT_RANK LEVEL PARENT_ID NODE_ID TREE
+                   1 4 0 1 1 - E1 1
+                   2 2 1 1 2 E1 F1 1
+                   3 1 2 1 3 F1 G1 1
+                   4 1 1 1 2 E1 F2 1
+                   5 5 0 5 1 - E2 2
+                   6 3 5 5 2 E2 F3 2
+                   7 2 6 5 3 F3 G2 2
+                   8 1 7 5 4 G2 H1 2
+                   9 1 5 5 2 E2 F4 2
+                   10 5 0 10 1 - E3 3
+                   11 4 10 10 2 E3 F5 3
+                   12 3 11 10 3 F5 G3 3
+                   13 1 12 10 4 G3 H1 3
+                   14 1 12 10 4 G3 H2 3";
+    let mut printed = lines(printed);
+    let header = printed.remove(0);
+    let mut before = 0;
+    // Each node is one of the 18 rows; all others are left over.
+    for (id, nodes, left) in [("E1", 4, 14), ("E2", 5, 13), ("E3", 5, 13)] {
+        let start = [numeral(id)];
+        let view = View::shortest(engine, t_demo_err(&[0, 1, 2, 3]), Start::Numerals(&start));
+        assert_eq!((view.image.nodes(), view.image.left), (nodes, left), "{id}");
+        let tree: Vec<String> =
+            printed.drain(..nodes as usize).map(|line| moved(&line, before)).collect();
+        view.check(&view.all(), &format!("{header}\n{}", tree.join("\n")));
+        before += nodes;
+    }
+    assert_eq!((before, printed.len()), (14, 0));
+}
+
+/// A line that begins with rank, tree size, parent rank and root rank, the ranks made smaller by the
+/// nodes before; parent rank 0 stays 0.
+fn moved(line: &str, before: u32) -> String {
+    let mut fields: Vec<String> = line.split(' ').map(str::to_string).collect();
+    for place in [0, 2, 3] {
+        let rank: u32 = fields[place].parse().expect("a rank");
+        fields[place] = rank.saturating_sub(before).to_string();
+    }
+    fields.join(" ")
+}
+
+/// "If the recursive relations contained in the source data describe a well-formed tree, the output of
+/// HIERARCHY_SPANTREE is the same as the output of the HIERARCHY Generator Function": T_DEMO, from
+/// its root and from B2.
+pub fn s3_2_well_formed_tree(engine: &dyn Engine) {
+    let b2 = [numeral("B2")];
+    for start in [Start::ParentZero, Start::Numerals(&b2)] {
+        let tree = View::shortest(engine, t_demo(), start).image;
+        let hierarchy = View::new(engine, t_demo(), 0, None, start).image;
+        assert_eq!(tree.bodies(), hierarchy.bodies());
+        let totals = ..=tree.nodes() as usize;
+        assert_eq!(tree.totals[totals], hierarchy.totals[totals]);
+        assert_eq!(tree.left, hierarchy.left);
+    }
+}
+
 // 3.4 HIERARCHY_LEVELLED
 
 /// All columns of T_DEMO_LVL are levels, attributes too.
@@ -1100,6 +1166,25 @@ pub fn s8_3_cycle_reconstruction(engine: &dyn Engine) {
     assert_eq!((found.rank, view.id_of(found.rank)), (14, "F5".to_string()));
 }
 
+/// The remedy for multiple parents, printed without a table: "each NODE_ID value is only reached once
+/// during traversal and all further edges leading to that node are ignored". H_DEMO_ERR has 18 nodes
+/// of 13 ids, the spanning tree one of each id.
+pub fn s8_3_spanning_tree(engine: &dyn Engine) {
+    let ids = |view: &View| -> Vec<u32> {
+        let mut ids: Vec<u32> = view.image.bodies().iter().map(|body| body.numeral).collect();
+        ids.sort();
+        ids
+    };
+    let mut once = ids(&h_demo_err(engine));
+    assert_eq!(once.len(), 18);
+    once.dedup();
+    let view = View::shortest(engine, t_demo_err(&[0, 1, 2, 3]), Start::ParentZero);
+    assert_eq!((ids(&view), once.len()), (once.clone(), 13));
+    assert!(view.image.bodies().iter().all(|body| !body.closing && !body.orphan));
+    // The edges ignored: F2 G1, F4 G2, G3 H1, H2 F5; and the orphan E4 F6.
+    assert_eq!(view.image.left, 18 - 13);
+}
+
 // 8.4 Generic graph topologies
 
 /// Sum of a limited query: start from B2, DEPTH 2, no order of siblings.
@@ -1209,11 +1294,10 @@ pub fn s8_7_connectivity(engine: &dyn Engine) {
 
 // 8.8 Nearest common ancestor
 
-/// The nearest common ancestor of D1 and D3. The guide takes a spanning tree,
-/// which on a well-formed tree is the hierarchy.
+/// The nearest common ancestor of D1 and D3 in a spanning tree.
 pub fn s8_8_nearest_common_ancestor(engine: &dyn Engine) {
     let start = [numeral("A1")];
-    let view = View::new(engine, t_demo(), 0, None, Start::Numerals(&start));
+    let view = View::shortest(engine, t_demo(), Start::Numerals(&start));
     let (low, high) = (view.rank_of("D1"), view.rank_of("D3"));
     let above = view.ancestors(low, ANY.0, ANY.1);
     let nearest = above.iter().find(|pick| view.in_span(high, pick.rank)).unwrap();
@@ -1363,6 +1447,34 @@ pub fn deviation_ties(engine: &dyn Engine) {
     let view = View::new(engine, rows, code(2, 0, 0), None, Start::Numerals(&start));
     let adopter = view.image.body(view.rank_of("A1")).parent;
     assert_eq!(view.id_of(adopter), "B2");
+}
+
+/// The spanning tree of T_DEMO_ERR from all start nodes at once: H1, which the guide prints below E2
+/// and below E3, on level 4 both times, stands below E2 alone, the first in path order. Its second line
+/// is the only one of the guide's table that is missing; the trees of E3, F5 and G3 are smaller by one.
+pub fn deviation_spanning_tree(engine: &dyn Engine) {
+    let printed = "RANK TREE_SIZE PARENT_RANK ROOT_RANK LEVEL PARENT_ID NODE_ID TREE
+                   1 4 0 1 1 - E1 1
+                   2 2 1 1 2 E1 F1 1
+                   3 1 2 1 3 F1 G1 1
+                   4 1 1 1 2 E1 F2 1
+                   5 5 0 5 1 - E2 2
+                   6 3 5 5 2 E2 F3 2
+                   7 2 6 5 3 F3 G2 2
+                   8 1 7 5 4 G2 H1 2
+                   9 1 5 5 2 E2 F4 2
+                   10 4 0 10 1 - E3 3
+                   11 3 10 10 2 E3 F5 3
+                   12 2 11 10 3 F5 G3 3
+                   13 1 12 10 4 G3 H2 3";
+    let rows = t_demo_err(&[0, 1, 2, 3]);
+    let view = View::shortest(engine, rows.clone(), Start::ParentZero);
+    view.check(&view.all(), printed);
+    assert_eq!(view.image.left, 5);
+    let roots = [numeral("E3"), numeral("E1"), numeral("E2")];
+    let by_list = View::shortest(engine, rows, Start::Numerals(&roots));
+    by_list.check(&by_list.all(), printed);
+    assert_eq!(by_list.image.left, 5);
 }
 
 /// Lines that the guide doesn't mention: equal ones have the same nodes, wholly NULL ones none, and

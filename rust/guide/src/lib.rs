@@ -10,6 +10,9 @@
 //!   ring (`s3_1_orphaned_cycle`).
 //! * Siblings of equal order: the guide leaves their order open; the paper takes
 //!   the smaller numeral, then the smaller row number (`deviation_ties`).
+//! * Spanning trees: the guide keeps a node once for each start node that leads to it, the
+//!   papers once in all (`deviation_spanning_tree`); so its table is compared start by
+//!   start (`s3_2_spanning_tree`).
 //! * Start conditions: the guide takes any SQL condition; the paper takes parent
 //!   0 or a list of numerals. A condition on another column is expressed by
 //!   giving the rows that meet it parent 0.
@@ -44,6 +47,10 @@ pub trait Engine {
     /// Builds over lines of `width` cells into slices of the engine's choice, which
     /// hold at least 1,000 nodes.
     fn build_levelled(&self, cells: &[u32], width: u32) -> Result<Image, u32>;
+
+    /// Builds shortest placement over `rows` into slices of the engine's choice, which hold
+    /// at least 1,000 nodes.
+    fn build_shortest(&self, rows: &[Row], start: Start) -> Result<Image, u32>;
 
     /// Ranks of the node's span within the limits.
     fn descendants(
@@ -141,6 +148,8 @@ list_examples! {
     s3_1_multiparent
     s3_1_cycle_error
     s3_1_cycle_breakup
+    s3_2_spanning_tree
+    s3_2_well_formed_tree
     s3_4_all_columns
     s3_4_level_columns
     s4_1_levels_of_columns
@@ -178,6 +187,7 @@ list_examples! {
     s8_2_parametrized
     s8_3_orphan_collector
     s8_3_cycle_reconstruction
+    s8_3_spanning_tree
     s8_4_limited_query
     s8_4_partial_tree
     s8_5_multiplied_nodes
@@ -191,5 +201,6 @@ list_examples! {
     s8_11_drill_down
     s8_12_graphviz
     deviation_ties
+    deviation_spanning_tree
     deviation_levelled_lines
 }

@@ -116,6 +116,14 @@ pub fn t_demo_err(trees: &[u32]) -> Vec<Row> {
     unordered(rows.collect())
 }
 
+/// The tree that T_DEMO_ERR tells of a row.
+pub fn tree(row: Row) -> u32 {
+    let same = |(parent, node, _): &&(&str, &str, u32)| {
+        (numeral(parent), numeral(node)) == (row.parent, row.numeral)
+    };
+    T_DEMO_ERR.iter().find(same).expect("a row of T_DEMO_ERR").2
+}
+
 /// T_DEMO with a measure of the joined facts of each node as minutes.
 pub fn t_demo_facts(measure: fn(&[i32]) -> i32) -> Vec<Row> {
     let mut rows = t_demo();

@@ -1,6 +1,6 @@
 //! A built hierarchy, and the comparison with a printed table.
 
-use crate::tables::{id, numeral};
+use crate::tables::{id, numeral, tree};
 use crate::{Engine, Image};
 use reference::{Row, Start};
 
@@ -40,7 +40,18 @@ impl<'a> View<'a> {
         depth: Option<i32>,
         start: Start,
     ) -> View<'a> {
-        let image = engine.build(&rows, code, depth, start).expect("build accepted");
+        let image = engine.build(&rows, code, depth, start);
+        View::of(engine, rows, image)
+    }
+
+    /// Builds a spanning tree.
+    pub fn shortest(engine: &'a dyn Engine, rows: Vec<Row>, start: Start) -> View<'a> {
+        let image = engine.build_shortest(&rows, start);
+        View::of(engine, rows, image)
+    }
+
+    fn of(engine: &'a dyn Engine, rows: Vec<Row>, built: Result<Image, u32>) -> View<'a> {
+        let image = built.expect("build accepted");
         assert!(engine.index_check(&image.index), "index check");
         View { engine, rows, image, name: id }
     }
@@ -160,6 +171,7 @@ impl<'a> View<'a> {
             }
             "START_RANK" => pick.start.to_string(),
             "START_ID" => self.id_of(pick.start),
+            "TREE" => tree(self.source(pick.rank).expect("a source row")).to_string(),
             "AMOUNT" => self.amount(pick.rank).to_string(),
             _ => panic!("column {column}"),
         }

@@ -14,6 +14,16 @@ pub enum Start<'a> {
     Numerals(&'a [u32]),
 }
 
+impl Start<'_> {
+    /// Whether the row is a start row.
+    pub fn takes(&self, row: &Row) -> bool {
+        match self {
+            Start::ParentZero => row.parent == 0,
+            Start::Numerals(list) => list.contains(&row.numeral),
+        }
+    }
+}
+
 /// The three choices of an option code.
 #[derive(Clone, Copy, Debug, PartialEq, Eq)]
 pub struct Options {
@@ -350,10 +360,7 @@ pub fn forest(
 ) -> Result<Forest, u32> {
     let all: Vec<usize> = (1..=rows.len()).collect();
 
-    let is_start = |k: usize| match start {
-        Start::ParentZero => rows[k - 1].parent == 0,
-        Start::Numerals(list) => list.contains(&rows[k - 1].numeral),
-    };
+    let is_start = |k: usize| start.takes(&rows[k - 1]);
     let mut start_rows: Vec<usize> = all.iter().copied().filter(|&k| is_start(k)).collect();
     start_rows.sort_by(|&a, &b| sibling_order(rows, a, b));
 
@@ -498,18 +505,23 @@ fn attempt(
         return Err(12);
     }
 
+    let left = left_over(rows, &bodies);
+    Ok((bodies, left))
+}
+
+/// The number of rows that end no node.
+pub(crate) fn left_over(rows: &[Row], bodies: &[Body]) -> u32 {
     let mut ends = vec![false; rows.len()];
-    for body in &bodies {
+    for body in bodies {
         if body.row != 0 {
             ends[body.row as usize - 1] = true;
         }
     }
-    let left = ends.iter().filter(|end| !**end).count();
-    Ok((bodies, left as u32))
+    ends.iter().filter(|end| !**end).count() as u32
 }
 
 /// The minutes of a node: those of its last row, and 0 of an entry.
-fn minutes(rows: &[Row], body: &Body) -> i64 {
+pub(crate) fn minutes(rows: &[Row], body: &Body) -> i64 {
     match body.row {
         0 => 0,
         row => rows[row as usize - 1].minutes as i64,

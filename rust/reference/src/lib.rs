@@ -4,6 +4,7 @@
 //!   undone ones.
 //! * [`board`]: the board record, its soundness and the edits on it.
 //! * [`forest`]: paths, nodes, their order and the build of the index image.
+//! * [`shortest`]: the paths that shortest placement keeps, and the build from them.
 //! * [`levelled`]: beginnings of the lines of a levelled list, and the build from them.
 //! * [`navigation`]: span, descendants, ancestors, siblings and sums on any slices.
 //! * [`check`]: the index check.
@@ -21,6 +22,7 @@ pub mod levelled;
 pub mod listing;
 pub mod machine;
 pub mod navigation;
+pub mod shortest;
 
 pub use board::{Board, Edited, Entry, Row};
 pub use check::index_check;
@@ -31,6 +33,7 @@ pub use machine::{Call, Machine};
 pub use navigation::{
     ancestors, descendants, path_sum, siblings, span, subtree_sum, Climbed, Listed, Spanned, Summed,
 };
+pub use shortest::{build_shortest, build_shortest_board};
 
 /// Places for rows on a board.
 pub const MAX_ROWS: usize = 1_024;

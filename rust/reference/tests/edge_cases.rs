@@ -1,5 +1,8 @@
 //! Edges of the sentences, worked out by hand.
 
+mod common;
+
+use common::{accepted, image_in, refused, Image};
 use reference::board::{carried_out, inverse, PUT_IN, SET, TAKE_OUT};
 use reference::*;
 
@@ -7,20 +10,8 @@ fn row(parent: u32, numeral: u32, order: u32) -> Row {
     Row::new(parent, numeral, order, 1)
 }
 
-struct Image {
-    built: Built,
-    index: Vec<u32>,
-    totals: Vec<i64>,
-}
-
 fn build_all(rows: &[Row], code: u32, depth: Option<i32>, start: Start) -> Image {
-    let mut index = vec![99; 8 + 6 * 4_000];
-    let mut totals = vec![99; 4_001];
-    let built = build(rows, code, depth, start, &mut index, &mut totals);
-    if built.refusal == 0 {
-        assert!(index_check(&index));
-    }
-    Image { built, index, totals }
+    image_in(4_000, |index, totals| build(rows, code, depth, start, index, totals))
 }
 
 /// Row number, parent rank, level, closing, orphan of each node.
@@ -29,14 +20,6 @@ fn shape(image: &Image) -> Vec<(u32, u32, u32, bool, bool)> {
         .map(|rank| Body::read(&image.index, rank))
         .map(|b| (b.row, b.parent, b.level, b.closing, b.orphan))
         .collect()
-}
-
-fn accepted(nodes: u32, left: u32) -> Built {
-    Built { refusal: 0, nodes, left }
-}
-
-fn refused(refusal: u32) -> Built {
-    Built { refusal, nodes: 0, left: 0 }
 }
 
 #[test]
@@ -387,7 +370,7 @@ fn siblings_of_equal_order_and_numeral_by_row_number() {
     let rows = [Row::new(9, 7, 3, 8), Row::new(0, 7, 3, -5), Row::new(8, 7, 3, 1)];
     let image = build_all(&rows, 0, None, Start::Numerals(&[7]));
     assert_eq!(paths(&image), [[1], [2], [3]]);
-    assert_eq!(image.totals[..4], [0, 8, 3, 4]);
+    assert_eq!(image.totals(), [0, 8, 3, 4]);
 }
 
 #[test]
@@ -567,7 +550,7 @@ fn several_rows_of_one_numeral() {
     ];
     let image = build_all(&rows, 0, None, Start::ParentZero);
     assert_eq!(paths(&image), [&[1][..], &[1, 4], &[1, 3], &[2], &[2, 4], &[2, 3]]);
-    assert_eq!(image.totals[..7], [0, 1, 1_001, 1_101, 1_111, 2_111, 2_211]);
+    assert_eq!(image.totals(), [0, 1, 1_001, 1_101, 1_111, 2_111, 2_211]);
     for (rank, subtree, path) in [
         (1, 1_101, 1),
         (2, 1_000, 1_001),

@@ -1,5 +1,8 @@
 //! Islands join the tree: entries, what goes on from them and their places, worked out by hand.
 
+mod common;
+
+use common::{accepted, image_in, refused, Image};
 use reference::*;
 
 const ON: Start = Start::ParentZero;
@@ -11,35 +14,8 @@ fn row(parent: u32, numeral: u32, order: u32) -> Row {
     Row::new(parent, numeral, order, 1)
 }
 
-fn accepted(nodes: u32, left: u32) -> Built {
-    Built { refusal: 0, nodes, left }
-}
-
-fn refused(refusal: u32) -> Built {
-    Built { refusal, nodes: 0, left: 0 }
-}
-
-struct Image {
-    built: Built,
-    index: Vec<u32>,
-    totals: Vec<i64>,
-}
-
-/// Builds in wide slices. A refused build leaves zeros, an accepted one an index that the check
-/// accepts and unchanged words beyond.
 fn build_all(rows: &[Row], code: u32, start: Start) -> Image {
-    let mut index = vec![77; 8 + 6 * 4_000];
-    let mut totals = vec![77; 4_001];
-    let built = build(rows, code, None, start, &mut index, &mut totals);
-    if built.refusal == 0 {
-        let n = built.nodes as usize;
-        assert!(index_check(&index));
-        assert!(index[8 + 6 * n..].iter().all(|word| *word == 77));
-        assert!(totals[n + 1..].iter().all(|total| *total == 77));
-    } else {
-        assert!(index.iter().all(|word| *word == 0) && totals.iter().all(|total| *total == 0));
-    }
-    Image { built, index, totals }
+    image_in(4_000, |index, totals| build(rows, code, None, start, index, totals))
 }
 
 /// Numeral, row number, tree size, parent rank, root rank, level, closing, orphan of each node.
@@ -69,10 +45,6 @@ fn entries(image: &Image) -> Vec<u32> {
     bodies(image).iter().filter(|body| body[1] == 0).map(|body| body[0]).collect()
 }
 
-fn totals(image: &Image) -> &[i64] {
-    &image.totals[..=image.built.nodes as usize]
-}
-
 /// 10 over 20 over 30 over 10, entered as a ring with no way in.
 const GEAR_TRAIN: [Row; 3] =
     [Row::new(30, 10, 1, 5), Row::new(10, 20, 1, 7), Row::new(20, 30, 1, 11)];
@@ -89,7 +61,7 @@ fn gear_train_under_root() {
             [10, 1, 1, 3, 1, 4, 1, 1],
         ]
     );
-    assert_eq!(totals(&image), [0, 0, 7, 18, 23]);
+    assert_eq!(image.totals(), [0, 0, 7, 18, 23]);
 }
 
 #[test]
@@ -124,7 +96,7 @@ fn gear_train_under_adopt() {
             [10, 1, 1, 4, 1, 5, 1, 1],
         ]
     );
-    assert_eq!(totals(&image), [0, 100, 100, 107, 118, 123]);
+    assert_eq!(image.totals(), [0, 100, 100, 107, 118, 123]);
 }
 
 #[test]
@@ -271,7 +243,7 @@ fn a_ring_of_one_row() {
     let rows = [Row::new(5, 5, 1, -4)];
     let image = whole(&rows, ROOT, ON);
     assert_eq!(bodies(&image), [[5, 0, 2, 0, 1, 1, 0, 1], [5, 1, 1, 1, 1, 2, 1, 1]]);
-    assert_eq!(totals(&image), [0, 0, -4]);
+    assert_eq!(image.totals(), [0, 0, -4]);
     // The largest numeral.
     let rows = [row(u32::MAX, u32::MAX, u32::MAX)];
     assert_eq!(
@@ -367,7 +339,7 @@ fn island_behind_orphans_and_start_rows_under_root() {
             [70, 8, 1, 7, 7, 2, 0, 1],
         ]
     );
-    assert_eq!(totals(&image), [0, 64, 66, 98, 354, 358, 374, 374, 382, 383, 511]);
+    assert_eq!(image.totals(), [0, 64, 66, 98, 354, 358, 374, 374, 382, 383, 511]);
 }
 
 #[test]
@@ -388,7 +360,7 @@ fn island_behind_orphans_and_start_rows_under_adopt() {
             [70, 8, 1, 7, 2, 3, 0, 1],
         ]
     );
-    assert_eq!(totals(&image), [0, 64, 66, 98, 354, 358, 374, 374, 382, 383, 511]);
+    assert_eq!(image.totals(), [0, 64, 66, 98, 354, 358, 374, 374, 382, 383, 511]);
 }
 
 #[test]
@@ -760,7 +732,7 @@ fn minutes_of_a_ring_at_their_ends() {
     let image = whole(&rows, ROOT, ON);
     let low = i32::MIN as i64;
     let high = i32::MAX as i64;
-    assert_eq!(totals(&image), [0, 0, low, 2 * low, 2 * low, 2 * low - 1, 2 * low - 1 + high]);
+    assert_eq!(image.totals(), [0, 0, low, 2 * low, 2 * low, 2 * low - 1, 2 * low - 1 + high]);
     assert_eq!(subtree_sum(&image.index, &image.totals, 1).sum, 2 * low);
     assert_eq!(subtree_sum(&image.index, &image.totals, 4).sum, high - 1);
 }

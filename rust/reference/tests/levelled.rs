@@ -1,45 +1,18 @@
 //! Levelled lists: sorted lines, their beginnings as nodes, refusals, and navigation and the check
 //! on what they build, worked out by hand.
 
+mod common;
+
+use common::{accepted, image_in, refused, zeroed, Image};
 use reference::levelled::line_order;
 use reference::*;
 use std::cmp::Ordering;
 
-fn accepted(nodes: u32, left: u32) -> Built {
-    Built { refusal: 0, nodes, left }
-}
-
-fn refused(refusal: u32) -> Built {
-    Built { refusal, nodes: 0, left: 0 }
-}
-
-struct Image {
-    built: Built,
-    index: Vec<u32>,
-    totals: Vec<i64>,
-}
-
-/// Builds in slices for `room` nodes and seven words and totals more. A refused build leaves zeros;
-/// an accepted one an index that the check accepts, n + 1 zeros and unchanged words beyond.
+/// Builds in slices for `room` nodes; all totals of an accepted build are 0.
 fn build_in(cells: &[u32], width: u32, room: usize) -> Image {
-    let mut index = vec![77; 8 + 6 * room + 7];
-    let mut totals = vec![77; room + 1 + 7];
-    let built = build_levelled(cells, width, &mut index, &mut totals);
-    if built.refusal == 0 {
-        let n = built.nodes as usize;
-        assert!(index_check(&index));
-        assert!(index[8 + 6 * n..].iter().all(|word| *word == 77));
-        assert!(totals[..=n].iter().all(|total| *total == 0));
-        assert!(totals[n + 1..].iter().all(|total| *total == 77));
-    } else {
-        assert_eq!((built.nodes, built.left), (0, 0));
-        zeroed(&index, &totals);
-    }
-    Image { built, index, totals }
-}
-
-fn zeroed(index: &[u32], totals: &[i64]) {
-    assert!(index.iter().all(|word| *word == 0) && totals.iter().all(|total| *total == 0));
+    let image = image_in(room, |index, totals| build_levelled(cells, width, index, totals));
+    assert!(image.totals().iter().all(|total| *total == 0));
+    image
 }
 
 fn image_of<const WIDTH: usize>(lines: &[[u32; WIDTH]]) -> Image {

@@ -86,6 +86,28 @@ fn chain_below_a_ring() -> Vec<Row> {
     rows
 }
 
+/// Each row below a drawn numeral of 300, of which the first is a start: plain paths are beyond counting.
+fn dense() -> Vec<Row> {
+    let mut random = Random::new(1);
+    let mut any = || random.between(1, 300) as u32;
+    let mut rows: Vec<Row> = (0..1_024).map(|_| Row::new(any(), any(), any() % 13, 1)).collect();
+    rows[0] = Row::new(0, 1, 1, 1);
+    rows
+}
+
+/// The board of the listing program's example in the scope paper: a ring, an orphan, two shared numerals.
+fn sample() -> Vec<Row> {
+    vec![
+        Row::new(0, 10, 1, 5),
+        Row::new(10, 20, 2, 3),
+        Row::new(10, 30, 1, 4),
+        Row::new(20, 40, 1, 2),
+        Row::new(30, 40, 1, 1),
+        Row::new(40, 20, 1, -1),
+        Row::new(90, 91, 1, 7),
+    ]
+}
+
 fn small() -> Vec<Row> {
     (1..=10).map(|number| Row::new(number / 2, number, 1, 1)).collect()
 }
@@ -148,6 +170,37 @@ fn builds(job: &str, rows: &[Row], code: u32, rounds: u32) -> f64 {
     );
     print(job, &format!("{} rows, {} nodes", rows.len(), built.nodes), times);
     times.0 / 1_000.0
+}
+
+fn shortest(job: &str, rows: &[Row], rounds: u32) {
+    let board = board(rows);
+    let (mut index, mut totals) = (vec![0; index_len(rows.len())], vec![0; totals_len(rows.len())]);
+    let (mut other, mut others) = (index.clone(), totals.clone());
+    let built = sys::build_shortest(&board, None, &mut index, &mut totals);
+    let expected = baseline::build_shortest(&board, None, &mut other, &mut others);
+    assert_eq!(built, expected);
+    assert!(index == other && totals == others);
+    let times = race(
+        rounds,
+        || {
+            black_box(sys::build_shortest(black_box(&board), None, &mut index, &mut totals));
+        },
+        || {
+            let board = black_box(&board);
+            black_box(baseline::build_shortest(board, None, &mut other, &mut others));
+        },
+    );
+    let work = format!("{} rows, {} nodes, {} rows left", rows.len(), built.nodes, built.left);
+    print(&format!("build shortest, {job}"), &work, times);
+}
+
+fn shortest_placements() {
+    shortest("tree", &tree()[..1_023], 20);
+    shortest("wide", &wide(), 100);
+    shortest("dense", &dense(), 20);
+    shortest("chain", &chain(), 20);
+    shortest("leaf roots", &leaves(), 20);
+    shortest("sample", &sample(), 200);
 }
 
 const WIDTH: usize = MAX_WIDTH as usize;
@@ -404,6 +457,7 @@ fn main() {
     builds("build, ring of 512 rows with a row on each, as roots", &ring_with_leaves(), 3, 20);
     builds("build, worst board for the ring test, as roots", &chain_below_a_ring(), 3, 2);
     builds("build, small", &small(), 0, 200);
+    shortest_placements();
     levelled_lists();
     edits();
     navigation();

@@ -2,7 +2,7 @@
 //! Prints its seed first and the counts at the end; fails at the first difference.
 #![forbid(unsafe_code)]
 
-use differential::{builds, edits, levelled, navigation, Tally};
+use differential::{builds, edits, levelled, navigation, shortest, Tally};
 use generate::{Random, HISTORIES};
 use std::time::{SystemTime, UNIX_EPOCH};
 
@@ -26,6 +26,7 @@ fn main() {
         for _ in 0..100 {
             builds::cases(&mut random, &mut tally);
             builds::islands(&mut random, &mut tally);
+            shortest::cases(&mut random, &mut tally);
             levelled::cases(&mut random, &mut tally);
             navigation::calls(&mut random, &mut tally);
             navigation::checks(&mut random, &mut tally);
@@ -35,8 +36,11 @@ fn main() {
         edits::histories(&mut random, kind, &mut tally);
         edits::replays(&mut random, kind, &mut tally);
         edits::boards(&mut random, &mut tally);
+        shortest::edited(&mut random, kind, &mut tally);
         builds::unsound(&mut random, &mut tally);
+        shortest::unsound(&mut random, &mut tally);
         if round % 20 == 0 {
+            shortest::full(&mut random, &mut tally);
             let nodes = random.between(65_530, 65_540);
             builds::limits(&mut random, nodes, &mut tally);
         }
