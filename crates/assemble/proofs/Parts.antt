@@ -16,7 +16,7 @@ use Rattle.ordering.specs.OrderingLayer.{RowsRead}
 use Rattle.links.specs.PreparedLayer.{Prepared, StartFlags, WithNumerals}
 use Rattle.enumerate.specs.EnumerateLayer.{ClearWorkspace}
 use Rattle.assemble.specs.AssembledLayer.{PreparedRows}
-use Rattle.assemble.specs.AssembledLaws.{marks-none}
+use Rattle.walk.specs.WalkLaws.{zeros-clear}
 
 -- ---- the front of an array that was lent, written and given back, and is lent again
 
@@ -73,5 +73,5 @@ module _ (n : ℕ) where
       record {
         reached-clear = zeros ∙ ap (λ (k : ℕ). replicate k 0) rows;
         marks-long = omega (arith, length-take-le n (replicate {A = ℕ} size 0) (omega (arith, length-replicate {A = ℕ} size 0)));
-        marks-clear = marks-none n (take n (replicate size 0)) zeros;
+        marks-clear = zeros-clear n (take n (replicate size 0)) zeros;
       }

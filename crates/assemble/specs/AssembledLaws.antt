@@ -120,14 +120,6 @@ module _ (R : List Row) (code : ℕ) (depth : Depth) (start : Row → Bool) (t :
 pub seven-is : (code : ℕ) (choice : Choice) (depth : Depth) → choice ≡ choiceOf code → refusal7 (orphanOf code) depth ≡ refusal7 (choice .orphan) depth
 seven-is code choice depth e = ap (λ (c : Choice). refusal7 (c .orphan) depth) (sym e)
 
-pub marks-none : (n : ℕ) (marks : List ℕ) → marks ≡ replicate n 0 → Clear marks
-unfolding Clear
-marks-none n marks e c = ap (λ (l : List ℕ). getD l c 0) e ∙ go (decLt c n)
-  where
-    go : Dec (c < n) → getD (replicate {A = ℕ} n 0) c 0 ≡ 0
-    go (yes h) = getD-replicate {A = ℕ} n c 0 0 h
-    go (no h) = List·getD-eq-default (replicate {A = ℕ} n 0) 0 {n = c} (omega (arith, length-replicate {A = ℕ} n 0))
-
 -- ---- the nodes as they are written
 
 -- what finishing asks of the bodies

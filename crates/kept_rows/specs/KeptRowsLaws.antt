@@ -43,14 +43,6 @@ use Rattle.kept_rows.specs.AlikeLaws.{kept-starts-found, kept-rows-found
 use Rattle.kept_rows.specs.SearchLaws.{take-none, queue-inside}
 use Rattle.kept_rows.specs.MaskLaws.{others-at}
 
-pub zeros-clear : (n : ℕ) (marks : List ℕ) → marks ≡ replicate n 0 → Clear marks
-unfolding Clear
-zeros-clear n marks e c = ap (λ (l : List ℕ). getD l c 0) e ∙ go (decLt c n)
-  where
-    go : Dec (c < n) → getD (replicate {A = ℕ} n 0) c 0 ≡ 0
-    go (yes h) = getD-replicate {A = ℕ} n c 0 0 h
-    go (no h) = List·getD-eq-default (replicate {A = ℕ} n 0) 0 {n = c} (omega (arith, length-replicate {A = ℕ} n 0))
-
 chain-in : {next : List ℕ} {m p : ℕ} {ps : List ℕ} → NextChain next m p ps → (q : ℕ) → q ∈ ps → q < m
 chain-in (end h) q k = absurd k
 chain-in {m = m} (more lt rest) q (inl e) = subst (λ x. x < m) (sym e) lt

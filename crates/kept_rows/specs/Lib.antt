@@ -3,3 +3,4 @@ pub mod SearchLaws
 pub mod MaskLaws
 pub mod AlikeLaws
 pub mod KeptRowsLaws
+pub mod KeptWalkLaws

@@ -3,15 +3,20 @@
 ghost use mathlib.Core.Path.{_≡_};
 ghost use mathlib.Core.Bool.{Bool};
 ghost use mathlib.Core.List.{List, [], _∷_};
-ghost use Prim.Native.Nat.{_≤_, _<_};
+ghost use Prim.Native.Nat.{ℕ, _+_, _*_, _≤_, _<_};
 ghost use lib.ListN.{length, replicate, take};
 ghost use lib.Seq.{slice};
 ghost use Rattle.rows.specs.declared.Row.{Row};
 ghost use Rattle.table.specs.TableLayer.{rowColumn, classColumn, flagColumn};
 ghost use Rattle.links.specs.PreparedLayer.{Prepared, StartFlags, WithNumerals, AnyPrepared};
-ghost use Rattle.walk.specs.WalkLayer.{Clear, flagged};
+ghost use Rattle.walk.specs.WalkLayer.{Clear, Walked, flagged};
+ghost use Rattle.rings.specs.RingsLayer.{RowsKept};
+ghost use Rattle.shortest.specs.Shortest.{shortestBodies};
 ghost use Rattle.enumerate.specs.EnumerateLayer.{ClearWorkspace};
 ghost use Rattle.kept_rows.specs.KeptRowsLayer.{Searchable, Seen, Met, SiblingsMet, Searched, RowsAt, othersMarked, rowsAt, Flagged, KeptLinked};
+use walk::Bounds;
+use walk::Place;
+use walk::Progress;
 
 // Meets the row at p: where its class isn't marked, marks it and puts p at the end of the queue. Answers the queue's end.
 fn meet(p: u32, tail: usize, table: &[u32], flags: &mut [u32], queue: &mut [u32]) -> usize
@@ -120,7 +125,7 @@ fn flag_kept(tops: usize, table: &mut [u32], queue: &[u32])
 }
 
 // Links the rows that end a kept path below another kept row, and flags the kept start rows alone.
-pub fn keep_shortest(table: &mut [u32], flags: &mut [u32], queue: &mut [u32])
+fn keep_shortest(table: &mut [u32], flags: &mut [u32], queue: &mut [u32])
     requires { ⌜ AnyPrepared (now table) ⌝ }
     requires { ⌜ ClearWorkspace (length (rowColumn (now table))) (now flags) (now queue) ⌝ }
     ensures { λ _. ⌜ ((R : List Row) (start : Row → Bool) → Prepared R (now (table .entry)) → StartFlags R start (now (table .entry)) → WithNumerals R → KeptLinked R start (now (table .entry)) (now (table .exit))) ⌝ }
@@ -132,4 +137,34 @@ pub fn keep_shortest(table: &mut [u32], flags: &mut [u32], queue: &mut [u32])
     orphans::link_outside(table, flags);
     flag_kept(tops, table, queue);
     lists::clear(queue);
+}
+
+// The nodes of shortest placement: their bodies go to the index from word 8 on. A count above `cap` says that there are more.
+pub fn walk_shortest(
+    cap: u32,
+    table: &mut [u32],
+    flags: &mut [u32],
+    queue: &mut [u32],
+    index: &mut [u32],
+) -> Progress
+    requires { ⌜ AnyPrepared (now table) ⌝ }
+    requires { ⌜ (cap ≤ 65535) × (8 + 6 * cap ≤ length (now index)) ⌝ }
+    requires { ⌜ ClearWorkspace (length (rowColumn (now table))) (now flags) (now queue) ⌝ }
+    ensures { λ r. ⌜ ((R : List Row) (start : Row → Bool) → Prepared R (now (table .entry)) → StartFlags R start (now (table .entry)) → WithNumerals R → Walked (shortestBodies R start) 0 cap 0 (now (queue .entry)) (now (queue .exit)) (now (index .entry)) (now (index .exit)) r) ⌝ }
+    ensures { λ _. ⌜ RowsKept (now (table .entry)) (now (table .exit)) ⌝ }
+{
+    keep_shortest(table, flags, queue);
+    let n = table::rows(table) as u32;
+    let top = Place {
+        level: 1,
+        parent: 0,
+        root: 0,
+        orphan: false,
+    };
+    let bounds = Bounds {
+        limit: n + 1,
+        cap: cap,
+    };
+    let none = Progress { count: 0, check: 0 };
+    walk::roots(0, n, top, bounds, none, table, queue, index)
 }

@@ -4,7 +4,8 @@ use lib.ListN.{length}
 use Rattle.table.specs.TableLayer.{rowColumn}
 use Rattle.lists.specs.StoreLaws.{zeros-length}
 use Rattle.enumerate.specs.OrphanLaws.{prepared-linkable}
-use Rattle.kept_rows.specs.KeptRowsLaws.{zeros-clear, prepared-searchable, met-rows, linked-rows, kept-linked}
+use Rattle.walk.specs.WalkLaws.{zeros-clear}
+use Rattle.kept_rows.specs.KeptRowsLaws.{prepared-searchable, met-rows, linked-rows, kept-linked}
 use Rattle.kept_rows.proofs.keep_shortest.Statement.{statement}
 use Rattle.kept_rows.proofs.keep_shortest.Tie as tie
 
