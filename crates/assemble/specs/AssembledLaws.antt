@@ -5,11 +5,10 @@ use mathlib.Core.Bool.{Bool, true, false, cond, not, _&&_}
 use mathlib.Core.List.{List, [], _∷_, map}
 use Prim.Native.Nat.{ℕ, zero, suc, _≤_, _<_}
 use native.Mathlib.Omega.{arith}
-use native.Mathlib.Decide.{decLt}
 use borrow.Author.Tests.{ne-eqb, eqb-true}
 use lib.Dec.{eqb}
 use lib.IntN.{ℤ, pos}
-use lib.ListN.{List·getD-eq-default, length, getD, replicate, length-replicate, getD-replicate}
+use lib.ListN.{length}
 use Rattle.lists.specs.Lists.{_∈_, filter, numbers, totalsFrom, front}
 use Rattle.lists.specs.MemberLaws.{filter-in, filter-out, numbers-in, numbers-out}
 use Rattle.rows.specs.declared.Row.{Row}
@@ -38,7 +37,7 @@ use Rattle.built.specs.RefusedLayer.{refusedBy}
 use Rattle.built.specs.OutcomeLaws.{attempt-refused}
 use Rattle.nodes.specs.OutcomeLayer.{pathsOutcome}
 use Rattle.table.specs.TableLayer.{rowColumn, parentColumn, numeralColumn, classColumn}
-use Rattle.walk.specs.WalkLayer.{Walked, Clear}
+use Rattle.walk.specs.WalkLayer.{Walked}
 use Rattle.finish.specs.FinishLayer.{leftOver, lateRefusal, lateAnswer, bodyMinutes, BodiesOver, NodesWritten, Classes, Finished}
 use Rattle.links.specs.ChildrenLaws.{rows-long, class-long, class-below, class-iff}
 use Rattle.links.specs.PreparedLayer.{Prepared, StartFlags}
@@ -123,7 +122,7 @@ seven-is code choice depth e = ap (λ (c : Choice). refusal7 (c .orphan) depth) 
 -- ---- the nodes as they are written
 
 -- what finishing asks of the bodies
-bodies-over : (R : List Row) (start : Row → Bool) (depth : Depth) (o : Orphan) → BodiesOver R (bodies R start depth o)
+pub bodies-over : (R : List Row) (start : Row → Bool) (depth : Depth) (o : Orphan) → BodiesOver R (bodies R start depth o)
 bodies-over R start depth o = record {
   row-high = λ b m. bodies-bounded R start depth o b m .row-high;
   numeral-of = numeral-of R start depth o;
@@ -141,6 +140,9 @@ unfolding entriesOf
 no-entries R start depth zero h = refl
 no-entries R start depth (suc zero) h = refl
 no-entries R start depth (suc (suc k)) h = absurd (omega arith)
+
+pub bodies-named : (R : List Row) (start : Row → Bool) (depth : Depth) (orphan : ℕ) → orphan ≤ 1 → (b : Body) → b ∈ bodies R start depth (orphanChoice orphan) → 1 ≤ b .row
+bodies-named R start depth orphan h = named R start depth (orphanChoice orphan) (no-entries R start depth orphan h)
 
 -- under adopt and root no row is left over
 pub none-left : (R : List Row) (start : Row → Bool) (depth : Depth) (code : ℕ) (choice : Choice) → choice ≡ choiceOf code → (1 < choice .orphan → depth ≡ None)
@@ -162,30 +164,31 @@ classes-of R t t′ y k = rw (k .rows-same) (rw (k .classes-same) (record {
   same = class-iff R (rowColumn t) (parentColumn t) (numeralColumn t) (y .ordered) (classColumn t) (y .class-is);
 }))
 
-module _ (R : List Row) (start : Row → Bool) (depth : Depth) (orphan : ℕ) (words totals cap : ℕ) (long : 8 ≤ words) (some : 1 ≤ totals) (cap-is : cap ≡ capacityOf words totals)
-    (on on′ ix ix′ : List ℕ) (words-are : length ix ≡ words) (m : Progress) (w : Walked (bodies R start depth (orphanChoice orphan)) 0 cap 0 on on′ ix ix′ m) where
-  pub nodes-over : cap < m .count → refusal9 (length (bodies R start depth (orphanChoice orphan))) words totals ≡ true
-  nodes-over h = capacity-over (length (bodies R start depth (orphanChoice orphan))) words totals long some (omega (arith, w .count, cap-is))
+-- the bodies bs of any nodes, once they were walked
+module _ (R : List Row) (orphan : ℕ) (bs : List Body) (words totals cap : ℕ) (long : 8 ≤ words) (some : 1 ≤ totals) (cap-is : cap ≡ capacityOf words totals)
+    (on on′ ix ix′ : List ℕ) (words-are : length ix ≡ words) (m : Progress) (w : Walked bs 0 cap 0 on on′ ix ix′ m) where
+  pub nodes-over : cap < m .count → refusal9 (length bs) words totals ≡ true
+  nodes-over h = capacity-over (length bs) words totals long some (omega (arith, w .count, cap-is))
 
   module _ (fit : m .count ≤ cap) where
-    count-is : m .count ≡ length (bodies R start depth (orphanChoice orphan))
+    count-is : m .count ≡ length bs
     count-is = omega (arith, w .count)
 
-    pub nodes-fit : refusal9 (length (bodies R start depth (orphanChoice orphan))) words totals ≡ false
-    nodes-fit = capacity-fits (length (bodies R start depth (orphanChoice orphan))) words totals long some (omega (arith, count-is, cap-is))
+    pub nodes-fit : refusal9 (length bs) words totals ≡ false
+    nodes-fit = capacity-fits (length bs) words totals long some (omega (arith, count-is, cap-is))
 
     pub nodes-few : m .count < totals
     nodes-few = omega (arith, capacity-bounds words totals long, cap-is)
 
-    pub nodes-written : NodesWritten R orphan (bodies R start depth (orphanChoice orphan)) ix ix′ m
-    nodes-written = record {
+    pub nodes-written : BodiesOver R bs → (orphan ≤ 1 → (b : Body) → b ∈ bs → 1 ≤ b .row) → NodesWritten R orphan bs ix ix′ m
+    nodes-written over named = record {
       count-is = count-is;
       check-is = w .check fit;
       few = omega (arith, count-is, capacity-bounds words totals long, cap-is);
       room = omega (arith, count-is, capacity-bounds words totals long, cap-is, words-are);
       written = w .written fit;
-      over = bodies-over R start depth (orphanChoice orphan);
-      named = λ h. named R start depth (orphanChoice orphan) (no-entries R start depth orphan h);
+      over = over;
+      named = named;
     }
 
 -- the refusals after 9

@@ -1,3 +1,4 @@
 pub mod AssembledLayer
 pub mod StartLaws
 pub mod AssembledLaws
+pub mod ShortestRowsLaws

@@ -15,12 +15,18 @@ ghost use Rattle.table.specs.TableLayer.{rowColumn};
 ghost use Rattle.links.specs.PreparedLayer.{WithNumerals};
 ghost use Rattle.refusals.specs.TestsLayer.{capacityOf};
 ghost use Rattle.enumerate.specs.EnumerateLayer.{ClearWorkspace};
-ghost use Rattle.assemble.specs.AssembledLayer.{RowsBuilt, PreparedRows, AnyPreparedRows};
+ghost use Rattle.assemble.specs.AssembledLayer.{RowsBuilt, ShortestRowsBuilt, Placeable, RowsPlaced, PreparedRows, AnyPreparedRows};
 use built::Built;
 use options::Choice;
 use options::Depth;
 use request::Start;
 use rows::Row;
+
+// Which paths of the rows are nodes: all of them, by these choices and this depth, or for each numeral the shortest alone.
+pub enum Placement {
+    AllPaths(Choice, Depth),
+    Shortest,
+}
 
 // Enumerates the nodes and finishes the build of rows that are prepared. Where it is refused, both slices may hold anything.
 fn write_nodes(
@@ -46,8 +52,8 @@ fn write_nodes(
     finish::finish(choice, progress, minutes, table, reached, index, totals)
 }
 
-// The build of rows that are prepared. Where it is refused, both slices may hold anything.
-fn place_nodes(
+// The build over all paths of rows that are prepared. Where it is refused, both slices may hold anything.
+fn place_paths(
     choice: Choice,
     depth: Depth,
     minutes: &[i32],
@@ -80,19 +86,96 @@ fn place_nodes(
     )
 }
 
+// Walks the kept paths and finishes the build of rows that are prepared. Where it is refused, both slices may hold anything.
+fn write_shortest(
+    cap: u32,
+    minutes: &[i32],
+    table: &mut [u32],
+    reached: &mut [u32],
+    marks: &mut [u32],
+    index: &mut [u32],
+    totals: &mut [i64],
+) -> Built
+    requires { ⌜ AnyPreparedRows (now table) (now minutes) ⌝ }
+    requires { ⌜ (8 ≤ length (now index)) × (1 ≤ length (now totals)) × (cap ≡ capacityOf (length (now index)) (length (now totals))) ⌝ }
+    requires { ⌜ ClearWorkspace (length (rowColumn (now table))) (now reached) (now marks) ⌝ }
+    ensures { λ r. ⌜ ((R : List Row) (start : Row → Bool) → PreparedRows R start (now (table .entry)) (now (minutes .entry)) → ShortestRowsBuilt R start (now (index .entry)) (now (index .exit)) (now (totals .entry)) (now (totals .exit)) r) ⌝ }
+{
+    let progress = kept_rows::walk_shortest(cap, table, reached, marks, index);
+    if cap < progress.count {
+        return built::refused(9);
+    }
+    let none = Choice {
+        orphan: 0,
+        multi: 0,
+        cycle: 0,
+    };
+    finish::finish(none, progress, minutes, table, reached, index, totals)
+}
+
+// The build of shortest placement of rows that are prepared. Where it is refused, both slices may hold anything.
+fn place_shortest(
+    minutes: &[i32],
+    table: &mut [u32],
+    reached: &mut [u32],
+    marks: &mut [u32],
+    index: &mut [u32],
+    totals: &mut [i64],
+) -> Built
+    requires { ⌜ AnyPreparedRows (now table) (now minutes) ⌝ }
+    requires { ⌜ ClearWorkspace (length (rowColumn (now table))) (now reached) (now marks) ⌝ }
+    ensures { λ r. ⌜ ((R : List Row) (start : Row → Bool) → PreparedRows R start (now (table .entry)) (now (minutes .entry)) → ShortestRowsBuilt R start (now (index .entry)) (now (index .exit)) (now (totals .entry)) (now (totals .exit)) r) ⌝ }
+{
+    let refusal = refusals::early_refusal(0, table, index.len(), totals.len());
+    if refusal != 0 {
+        return built::refused(refusal);
+    }
+    let cap = refusals::capacity(index.len(), totals.len());
+    write_shortest(cap, minutes, table, reached, marks, index, totals)
+}
+
+// The build of rows that are prepared. Where it is refused, both slices may hold anything.
+fn place_nodes(
+    placement: Placement,
+    minutes: &[i32],
+    table: &mut [u32],
+    reached: &mut [u32],
+    marks: &mut [u32],
+    index: &mut [u32],
+    totals: &mut [i64],
+) -> Built
+    requires { ⌜ AnyPreparedRows (now table) (now minutes) ⌝ }
+    requires { ⌜ Placeable placement ⌝ }
+    requires { ⌜ ClearWorkspace (length (rowColumn (now table))) (now reached) (now marks) ⌝ }
+    ensures { λ r. ⌜ ((R : List Row) (start : Row → Bool) → PreparedRows R start (now (table .entry)) (now (minutes .entry)) → RowsPlaced placement R start (now (index .entry)) (now (index .exit)) (now (totals .entry)) (now (totals .exit)) r) ⌝ }
+{
+    match placement {
+        Placement::AllPaths(choice, depth) => place_paths(
+            choice,
+            depth,
+            minutes,
+            table,
+            reached,
+            marks,
+            index,
+            totals,
+        ),
+        Placement::Shortest => place_shortest(minutes, table, reached, marks, index, totals),
+    }
+}
+
 // The build of at most 64 rows, in working arrays of its own.
 fn build_few(
     rows: [Row; 1024],
     n: usize,
-    choice: Choice,
-    depth: Depth,
+    placement: Placement,
     start: Start,
     list: &[u32],
     index: &mut [u32],
     totals: &mut [i64],
 ) -> Built
-    requires { ⌜ (n ≤ 64) × (choice .orphan ≤ 3) × (refusal7 (choice .orphan) depth ≡ false) × WithNumerals (take n rows) ⌝ }
-    ensures { λ r. ⌜ ((code : ℕ) → choice ≡ choiceOf code → refusal6 code ≡ false → RowsBuilt (take n rows) code depth (startRule start (now (list .entry))) (now (index .entry)) (now (index .exit)) (now (totals .entry)) (now (totals .exit)) r) ⌝ }
+    requires { ⌜ (n ≤ 64) × Placeable placement × WithNumerals (take n rows) ⌝ }
+    ensures { λ r. ⌜ RowsPlaced placement (take n rows) (startRule start (now (list .entry))) (now (index .entry)) (now (index .exit)) (now (totals .entry)) (now (totals .exit)) r ⌝ }
 {
     let mut table = [0u32; 512];
     let mut minutes = [0i32; 64];
@@ -112,8 +195,7 @@ fn build_few(
     let mut reached = [0u32; 64];
     let mut marks = [0u32; 64];
     place_nodes(
-        choice,
-        depth,
+        placement,
         &minutes[..n],
         &mut table[..m],
         &mut reached[..n],
@@ -127,15 +209,14 @@ fn build_few(
 fn build_many(
     rows: [Row; 1024],
     n: usize,
-    choice: Choice,
-    depth: Depth,
+    placement: Placement,
     start: Start,
     list: &[u32],
     index: &mut [u32],
     totals: &mut [i64],
 ) -> Built
-    requires { ⌜ (n ≤ 1024) × (choice .orphan ≤ 3) × (refusal7 (choice .orphan) depth ≡ false) × WithNumerals (take n rows) ⌝ }
-    ensures { λ r. ⌜ ((code : ℕ) → choice ≡ choiceOf code → refusal6 code ≡ false → RowsBuilt (take n rows) code depth (startRule start (now (list .entry))) (now (index .entry)) (now (index .exit)) (now (totals .entry)) (now (totals .exit)) r) ⌝ }
+    requires { ⌜ (n ≤ 1024) × Placeable placement × WithNumerals (take n rows) ⌝ }
+    ensures { λ r. ⌜ RowsPlaced placement (take n rows) (startRule start (now (list .entry))) (now (index .entry)) (now (index .exit)) (now (totals .entry)) (now (totals .exit)) r ⌝ }
 {
     let mut table = [0u32; 8192];
     let mut minutes = [0i32; 1024];
@@ -155,8 +236,7 @@ fn build_many(
     let mut reached = [0u32; 1024];
     let mut marks = [0u32; 1024];
     place_nodes(
-        choice,
-        depth,
+        placement,
         &minutes[..n],
         &mut table[..m],
         &mut reached[..n],
@@ -170,18 +250,17 @@ fn build_many(
 pub fn build_rows(
     rows: [Row; 1024],
     n: usize,
-    choice: Choice,
-    depth: Depth,
+    placement: Placement,
     start: Start,
     list: &[u32],
     index: &mut [u32],
     totals: &mut [i64],
 ) -> Built
-    requires { ⌜ (n ≤ 1024) × (choice .orphan ≤ 3) × (refusal7 (choice .orphan) depth ≡ false) × WithNumerals (take n rows) ⌝ }
-    ensures { λ r. ⌜ ((code : ℕ) → choice ≡ choiceOf code → refusal6 code ≡ false → RowsBuilt (take n rows) code depth (startRule start (now (list .entry))) (now (index .entry)) (now (index .exit)) (now (totals .entry)) (now (totals .exit)) r) ⌝ }
+    requires { ⌜ (n ≤ 1024) × Placeable placement × WithNumerals (take n rows) ⌝ }
+    ensures { λ r. ⌜ RowsPlaced placement (take n rows) (startRule start (now (list .entry))) (now (index .entry)) (now (index .exit)) (now (totals .entry)) (now (totals .exit)) r ⌝ }
 {
     if n <= 64 {
-        return build_few(rows, n, choice, depth, start, list, index, totals);
+        return build_few(rows, n, placement, start, list, index, totals);
     }
-    build_many(rows, n, choice, depth, start, list, index, totals)
+    build_many(rows, n, placement, start, list, index, totals)
 }
