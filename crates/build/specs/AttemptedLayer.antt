@@ -13,6 +13,8 @@ use Rattle.built.specs.declared.Built.{Built}
 use Rattle.built.specs.OutcomeLayer.{Outcome, Attempted}
 use Rattle.nodes.specs.Refusals.{orphanChoice}
 use Rattle.nodes.specs.OutcomeLayer.{pathsOutcome}
+use Rattle.shortest.specs.Shortest.{shortestRefusal}
+use Rattle.shortest.specs.OutcomeLayer.{shortestOutcome}
 use Rattle.request.specs.Build.{buildRefusal}
 
 -- over all paths
@@ -21,3 +23,10 @@ boardPaths b code depth start = pathsOutcome (rowsOf b) start depth (orphanChoic
 
 abbrev pub PathsAttempted : (b : Board) (code : ℕ) (depth : Depth) (start : Row → Bool) (index index′ : List ℕ) (totals totals′ : List ℤ) (r : Built) → Type 0
 PathsAttempted b code depth start index index′ totals totals′ r = Attempted (boardPaths b code depth start) (buildRefusal b code depth start (length index) (length totals)) index index′ totals totals′ r
+
+-- of shortest placement
+abbrev pub boardShortest : Board → (Row → Bool) → Outcome
+boardShortest b start = shortestOutcome (rowsOf b) start
+
+abbrev pub ShortestAttempted : (b : Board) (start : Row → Bool) (index index′ : List ℕ) (totals totals′ : List ℤ) (r : Built) → Type 0
+ShortestAttempted b start index index′ totals totals′ r = Attempted (boardShortest b start) (shortestRefusal b start (length index) (length totals)) index index′ totals totals′ r

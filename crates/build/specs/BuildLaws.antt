@@ -1,5 +1,5 @@
 -- The branches of a build give the paper's answer. Assumes nothing.
-use mathlib.Core.Path.{_≡_, sym, _∙_}
+use mathlib.Core.Path.{_≡_, sym, ap, _∙_}
 use mathlib.Core.Logic.{_≢_}
 use mathlib.Core.Bool.{Bool, true, false, cond}
 use mathlib.Core.List.{List}
@@ -21,8 +21,9 @@ use Rattle.links.specs.PreparedLayer.{WithNumerals}
 use Rattle.built.specs.declared.Built.{Built}
 use Rattle.request.specs.Build.{buildRefusal, builtOf, indexAfter, totalsAfter}
 use Rattle.built.specs.RefusedLayer.{refusedBy}
-use Rattle.assemble.specs.AssembledLayer.{RowsBuilt}
-use Rattle.build.specs.AttemptedLayer.{boardPaths, PathsAttempted}
+use Rattle.assemble.specs.AssembledLayer.{RowsBuilt, shortestNine, ShortestRowsBuilt}
+use Rattle.shortest.specs.Shortest.{shortestRefusal, shortestBuilt, shortestIndex, shortestTotals}
+use Rattle.build.specs.AttemptedLayer.{boardPaths, PathsAttempted, boardShortest, ShortestAttempted}
 use Rattle.built.specs.OutcomeLaws.{attempt-refused, attempt-same, settled-index, settled-totals}
 
 pub by-six : (R : List Row) (code : ℕ) (depth : Depth) (start : Row → Bool) (words totals : ℕ) → refusal6 code ≡ true → refusalOf R code depth start words totals ≡ 6
@@ -72,6 +73,35 @@ module _ (b : Board) (code : ℕ) (depth : Depth) (start : Row → Bool) (index 
     pub totals-after : (totals″ : List ℤ) → length totals′ ≡ length totals → totals″ ≡ cond (eqb (r .refusal) 0) totals′ (replicate (length totals′) (pos 0)) → totals″ ≡ totalsAfter b code depth start (length index) totals
     unfolding totalsAfter
     totals-after = settled-totals (boardPaths b code depth start) index index′ totals totals′ r w
+
+-- ---- a build of shortest placement
+
+module _ (b : Board) (start : Row → Bool) (index index′ : List ℕ) (totals totals′ : List ℤ) (r : Built) where
+  pub shortest-unsound : soundOf b ≡ false → r ≡ refusedBy 1 → ShortestAttempted b start index index′ totals totals′ r
+  unfolding shortestRefusal
+  shortest-unsound s er =
+      attempt-refused (boardShortest b start) index index′ totals totals′ r (shortestRefusal b start (length index) (length totals)) 1
+      (ap (λ t. cond t (shortestNine (rowsOf b) start (length index) (length totals)) 1) s) (λ z. absurd (omega arith)) er
+
+  -- the rows of a sound board were built
+  pub shortest-built : soundOf b ≡ true → ShortestRowsBuilt (rowsOf b) start index index′ totals totals′ r → ShortestAttempted b start index index′ totals totals′ r
+  unfolding shortestRefusal
+  shortest-built s w =
+      attempt-same (boardShortest b start) index index′ totals totals′ r (sym (ap (λ t. cond t (shortestNine (rowsOf b) start (length index) (length totals)) 1) s)) w
+
+  -- once it is settled
+  module _ (w : ShortestAttempted b start index index′ totals totals′ r) where
+    pub shortest-answer : r ≡ shortestBuilt b start (length index) (length totals)
+    unfolding shortestBuilt
+    shortest-answer = w .answer
+
+    pub shortest-index : (index″ : List ℕ) → length index′ ≡ length index → index″ ≡ cond (eqb (r .refusal) 0) index′ (replicate (length index′) 0) → index″ ≡ shortestIndex b start index (length totals)
+    unfolding shortestIndex
+    shortest-index = settled-index (boardShortest b start) index index′ totals totals′ r w
+
+    pub shortest-totals : (totals″ : List ℤ) → length totals′ ≡ length totals → totals″ ≡ cond (eqb (r .refusal) 0) totals′ (replicate (length totals′) (pos 0)) → totals″ ≡ shortestTotals b start (length index) totals
+    unfolding shortestTotals
+    shortest-totals = settled-totals (boardShortest b start) index index′ totals totals′ r w
 
 -- each row of a sound board has a numeral
 pub sound-numbered : (b : Board) → soundOf b ≡ true → WithNumerals (rowsOf b)

@@ -1,8 +1,10 @@
-// The build: the hierarchy index of a board over all its paths, and the running totals.
+// The builds of a board: its hierarchy index over all its paths, or over the shortest to each numeral, and the running totals.
 ghost use mathlib.Core.Path.{_≡_};
 ghost use lib.ListN.{length};
 ghost use Rattle.request.specs.Build.{startRule, builtOf, indexAfter, totalsAfter, defaultCode, defaultDepth, defaultStart};
-ghost use Rattle.build.specs.AttemptedLayer.{PathsAttempted};
+ghost use Rattle.build.specs.AttemptedLayer.{PathsAttempted, ShortestAttempted};
+ghost use Rattle.shortest.specs.Shortest.{shortestBuilt, shortestIndex, shortestTotals};
+use assemble::Placement;
 use board::Board;
 use built::Built;
 use options::Depth;
@@ -32,7 +34,8 @@ fn attempt(
     }
     let rows = board.rows;
     let n = board.count;
-    assemble::build_rows(rows, n, choice, depth, start, list, index, totals)
+    let placement = Placement::AllPaths(choice, depth);
+    assemble::build_rows(rows, n, placement, start, list, index, totals)
 }
 
 // Builds the index of a board and its running totals. A refused build leaves both slices all zero.
@@ -69,4 +72,39 @@ pub fn build_default(board: Board, index: &mut [u32], totals: &mut [i64]) -> Bui
         index,
         totals,
     )
+}
+
+// The build of shortest placement. Where it is refused, both slices may hold anything.
+fn attempt_shortest(
+    board: Board,
+    start: Start,
+    list: &[u32],
+    index: &mut [u32],
+    totals: &mut [i64],
+) -> Built
+    ensures { λ r. ⌜ ShortestAttempted board (startRule start (now (list .entry))) (now (index .entry)) (now (index .exit)) (now (totals .entry)) (now (totals .exit)) r ⌝ }
+{
+    if !board.sound() {
+        return built::refused(1);
+    }
+    let held = board.rows;
+    let count = board.count;
+    let placement = Placement::Shortest;
+    assemble::build_rows(held, count, placement, start, list, index, totals)
+}
+
+// Builds the index of a board in which each numeral stands once, as close to a start row as it can, and its running totals. A refused build leaves both slices all zero.
+pub fn build_shortest(
+    board: Board,
+    start: Start,
+    list: &[u32],
+    index: &mut [u32],
+    totals: &mut [i64],
+) -> Built
+    ensures { λ r. ⌜ r ≡ shortestBuilt board (startRule start (now (list .entry))) (length (now (index .entry))) (length (now (totals .entry))) ⌝ }
+    ensures { λ _. ⌜ now (index .exit) ≡ shortestIndex board (startRule start (now (list .entry))) (now (index .entry)) (length (now (totals .entry))) ⌝ }
+    ensures { λ _. ⌜ now (totals .exit) ≡ shortestTotals board (startRule start (now (list .entry))) (length (now (index .entry))) (now (totals .entry)) ⌝ }
+{
+    let attempted = attempt_shortest(board, start, list, index, totals);
+    built::settle(attempted, index, totals)
 }

@@ -48,7 +48,7 @@ build-rows-requires : tie.Need-build-rows-requires
 build-rows-requires c κs =
     let y = sym (c .before .before .before .before .before .before .before .before .sound .ensures) ∙ not-false (c .before .before .before .before .before .before .before .before .sound .result) (c .before .before .before .before .before .before .before .if1 .left) in
     let named = subst Named (sym (c .before .before .before .before .before .choices .ensures)) (taken-apart (c .before .before .before .before .before .before .before .before .before .before .before .args .code) (omega (arith, c .before .before .before .before .before .before .if2 .left)) .0) in
-    (sound-count _ y, named .orphan-named, sym (c .before .before .before .before .is-depth-refused .ensures) ∙ c .before .before .before .if3 .left, sound-numbered _ y)
+    (sound-count _ y, (named .orphan-named, sym (c .before .before .before .before .is-depth-refused .ensures) ∙ c .before .before .before .if3 .left), sound-numbered _ y)
 
 same-length : tie.Need-same-length
 same-length c = search needs
