@@ -7,6 +7,7 @@ ghost use Rattle.navigate.specs.Climb.{ancestorsAnswer, ancestorsOut};
 ghost use Rattle.sums.specs.Sums.{subtreeAnswer, pathAnswer};
 ghost use Rattle.index_check.specs.IndexCheck.{accepts};
 ghost use Rattle.request.specs.Build.{startRule, builtOf, indexAfter, totalsAfter, defaultCode, defaultDepth, defaultStart};
+ghost use Rattle.shortest.specs.Shortest.{shortestBuilt, shortestIndex, shortestTotals};
 ghost use Rattle.levels.specs.Levelled.{levelledBuilt, levelledIndex, levelledTotals};
 ghost use Rattle.history.specs.Encoding.{replayedOf, refusalsOf};
 ghost use Rattle.flowpewter.specs.Spans.{spanOf};
@@ -137,6 +138,23 @@ pub extern "C" fn flowpewter_build_default(
     ensures { λ _. ⌜ now (totals .exit) ≡ totalsAfter board defaultCode defaultDepth defaultStart (length (now (index .entry))) (now (totals .entry)) ⌝ }
 {
     build::build_default(board, index, totals)
+}
+
+// Without `by_list` the list is ignored.
+#[no_mangle]
+pub extern "C" fn flowpewter_build_shortest(
+    board: Board,
+    by_list: bool,
+    list: &[u32],
+    index: &mut [u32],
+    totals: &mut [i64],
+) -> Built
+    ensures { λ r. ⌜ r ≡ shortestBuilt board (startRule (startOf «by_list») (now (list .entry))) (length (now (index .entry))) (length (now (totals .entry))) ⌝ }
+    ensures { λ _. ⌜ now (index .exit) ≡ shortestIndex board (startRule (startOf «by_list») (now (list .entry))) (now (index .entry)) (length (now (totals .entry))) ⌝ }
+    ensures { λ _. ⌜ now (totals .exit) ≡ shortestTotals board (startRule (startOf «by_list») (now (list .entry))) (length (now (index .entry))) (now (totals .entry)) ⌝ }
+{
+    let rule = start_of(by_list);
+    build::build_shortest(board, rule, list, index, totals)
 }
 
 #[no_mangle]
