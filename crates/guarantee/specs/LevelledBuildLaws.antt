@@ -19,6 +19,7 @@ use Rattle.built.specs.Room.{refusal9}
 use Rattle.forest.specs.Nodes.{rankOf, nodeAt, aboveRank}
 use Rattle.forest.specs.ForestLaws.{topRank}
 use Rattle.levels.specs.Levelled.{lineBefore, linesOf, sortedLines, levelledNodes, levelledBody, levelledBodies, longestShorter, shortestBeginning, blankLine, blankLines, nodeNumber, refusal18, refusal19, levelledRefusal, levelledBuilt, levelledIndex, levelledTotals}
+use Rattle.levels.specs.OutcomeLayer.{levelledOutcome}
 use Rattle.levels.specs.LineLaws.{Upto}
 use Rattle.levels.specs.NodeLaws.{nodes-of-lines}
 use Rattle.levels.specs.LevelledLaws.{list-wide, list-sorted, nodes-by-line, levelled-forest, above-longest, top-shortest, node-short}
@@ -100,7 +101,7 @@ module _ (s : List ℕ) (w : ℕ) where
   -- ---- a build
 
   abbrev outcome : Outcome
-  outcome = record { W = W; bs = bs; running = replicate (nodeNumber s w + 1) (pos 0); left = blankLines s w }
+  outcome = levelledOutcome s w
 
   each : (k : ℕ) (d : Body) → 1 ≤ k → k ≤ length W → BodyOf (levelledKind s w) W (nodeAt W k) (getD bs (k - 1) d)
   unfolding levelledBodies

@@ -21,14 +21,16 @@ use Rattle.image.specs.ImageLaws.{length-flat, image-written}
 use Rattle.built.specs.declared.Built.{Built}
 use Rattle.built.specs.Room.{refusal9}
 use Rattle.built.specs.RefusedLayer.{refusedBy}
-use Rattle.levels.specs.Levelled.{isBlank, lineBefore, linesOf, sortedLines, filledColumns, levelledBodies, blankLine, nodeNumber, blankLines, refusal18, refusal19, levelledRefusal, levelledBuilt, levelledIndex, levelledTotals}
+use Rattle.levels.specs.Levelled.{isBlank, lineBefore, linesOf, sortedLines, filledColumns, levelledBodies, blankLine, nodeNumber, refusal18, refusal19, levelledRefusal, levelledBuilt, levelledIndex, levelledTotals}
 use Rattle.levels.specs.LineLayer.{cells, lineAt, linesAt, filledNumber, Ready}
 use Rattle.forest.specs.Nodes.{Before}
 use Rattle.levels.specs.LineLaws.{Cell, cell-out, Upto}
 use Rattle.levels.specs.LevelledLaws.{list-wide, list-sorted}
 use Rattle.levels.specs.CellLaws.{cells-start, filledRest, filled-yes, filled-end}
 use Rattle.levels.specs.PassLaws.{longer-number}
-use Rattle.levelled.specs.WriteLayer.{Attempted}
+use Rattle.built.specs.OutcomeLaws.{attempt-refused, settled-index, settled-totals}
+use Rattle.levels.specs.OutcomeLayer.{levelledOutcome}
+use Rattle.levelled.specs.WriteLayer.{ListAttempted}
 use Rattle.levelled.specs.WriteLaws.{bodies-count, few-nodes}
 
 -- ---- blank lines
@@ -83,44 +85,37 @@ zeros-front xs ys end h e =
 -- ---- the answer
 
 module _ (s : List ℕ) (w : ℕ) (index : List ℕ) (totals : List ℤ) where
-  attempt-refused : (q : ℕ) (index′ : List ℕ) (totals′ : List ℤ) (r : Built) → r ≡ refusedBy q → levelledRefusal s w (length index) (length totals) ≡ q → q ≢ 0 → Attempted s w index index′ totals totals′ r
-  unfolding levelledBuilt
-  attempt-refused q index′ totals′ r er e n = record {
-    answer =
-        er
-        ∙ ap₂ (λ x t. record { refusal = x; nodes = cond t (nodeNumber s w) 0; left = cond t (blankLines s w) 0 }) (sym e) (sym (ne-eqb (levelledRefusal s w (length index) (length totals)) 0 (λ z. n (sym e ∙ z))));
-    index-is = λ z. absurd (n (sym e ∙ z));
-    totals-are = λ z. absurd (n (sym e ∙ z));
-  }
+  refused-by : (q : ℕ) (index′ : List ℕ) (totals′ : List ℤ) (r : Built) → r ≡ refusedBy q → levelledRefusal s w (length index) (length totals) ≡ q → q ≢ 0 → ListAttempted s w index index′ totals totals′ r
+  refused-by q index′ totals′ r er e n = attempt-refused (levelledOutcome s w) index index′ totals totals′ r (levelledRefusal s w (length index) (length totals)) q e n er
 
-  pub attempt-18 : (index′ : List ℕ) (totals′ : List ℤ) (r : Built) → r ≡ refusedBy 18 → refusal18 s w ≡ true → Attempted s w index index′ totals totals′ r
+  pub attempt-18 : (index′ : List ℕ) (totals′ : List ℤ) (r : Built) → r ≡ refusedBy 18 → refusal18 s w ≡ true → ListAttempted s w index index′ totals totals′ r
   unfolding levelledRefusal
-  attempt-18 index′ totals′ r er e = attempt-refused 18 index′ totals′ r er (ap (λ t. cond t 18 (cond (refusal19 s w) 19 (cond (refusal9 (nodeNumber s w) (length index) (length totals)) 9 0))) e) (λ z. absurd (omega arith))
+  attempt-18 index′ totals′ r er e = refused-by 18 index′ totals′ r er (ap (λ t. cond t 18 (cond (refusal19 s w) 19 (cond (refusal9 (nodeNumber s w) (length index) (length totals)) 9 0))) e) (λ z. absurd (omega arith))
 
-  pub attempt-19 : (index′ : List ℕ) (totals′ : List ℤ) (r : Built) → r ≡ refusedBy 19 → refusal18 s w ≡ false → refusal19 s w ≡ true → Attempted s w index index′ totals totals′ r
+  pub attempt-19 : (index′ : List ℕ) (totals′ : List ℤ) (r : Built) → r ≡ refusedBy 19 → refusal18 s w ≡ false → refusal19 s w ≡ true → ListAttempted s w index index′ totals totals′ r
   unfolding levelledRefusal
-  attempt-19 index′ totals′ r er e f = attempt-refused 19 index′ totals′ r er (ap₂ (λ t u. cond t 18 (cond u 19 (cond (refusal9 (nodeNumber s w) (length index) (length totals)) 9 0))) e f) (λ z. absurd (omega arith))
+  attempt-19 index′ totals′ r er e f = refused-by 19 index′ totals′ r er (ap₂ (λ t u. cond t 18 (cond u 19 (cond (refusal9 (nodeNumber s w) (length index) (length totals)) 9 0))) e f) (λ z. absurd (omega arith))
 
   module _ (ok : refusal18 s w ≡ false) (few : refusal19 s w ≡ false) where
     by-room : (t : Bool) → refusal9 (nodeNumber s w) (length index) (length totals) ≡ t → levelledRefusal s w (length index) (length totals) ≡ cond t 9 0
     unfolding levelledRefusal
     by-room t e = ap₂ (λ t u. cond t 18 (cond u 19 (cond (refusal9 (nodeNumber s w) (length index) (length totals)) 9 0))) ok few ∙ ap (λ t. cond t 9 0) e
 
-    attempt-9 : (index′ : List ℕ) (totals′ : List ℤ) (r : Built) → r ≡ refusedBy 9 → refusal9 (nodeNumber s w) (length index) (length totals) ≡ true → Attempted s w index index′ totals totals′ r
-    attempt-9 index′ totals′ r er e = attempt-refused 9 index′ totals′ r er (by-room true e) (λ z. absurd (omega arith))
+    attempt-9 : (index′ : List ℕ) (totals′ : List ℤ) (r : Built) → r ≡ refusedBy 9 → refusal9 (nodeNumber s w) (length index) (length totals) ≡ true → ListAttempted s w index index′ totals totals′ r
+    attempt-9 index′ totals′ r er e = refused-by 9 index′ totals′ r er (by-room true e) (λ z. absurd (omega arith))
 
     or-true : (a b : Bool) → b ≡ true → a || b ≡ true
     or-true true b e = refl
     or-true false b e = e
 
     -- the index is short
-    pub nine-index : (n : ℕ) (index′ : List ℕ) (totals′ : List ℤ) (r : Built) → n ≡ nodeNumber s w → length index < 8 + 6 * n → r ≡ refusedBy 9 → Attempted s w index index′ totals totals′ r
+    pub nine-index : (n : ℕ) (index′ : List ℕ) (totals′ : List ℤ) (r : Built) → n ≡ nodeNumber s w → length index < 8 + 6 * n → r ≡ refusedBy 9 → ListAttempted s w index index′ totals totals′ r
     nine-index n index′ totals′ r en h er =
         attempt-9 index′ totals′ r er (or-true (ltb 65535 (nodeNumber s w)) (ltb (length index) (8 + 6 * nodeNumber s w) || ltb (length totals) (nodeNumber s w + 1))
         (ap (λ t. t || ltb (length totals) (nodeNumber s w + 1)) (lt-ltb (length index) (8 + 6 * nodeNumber s w) (omega arith))))
 
     -- the totals are short
-    pub nine-totals : (n : ℕ) (index′ : List ℕ) (totals′ : List ℤ) (r : Built) → n ≡ nodeNumber s w → length totals < n + 1 → r ≡ refusedBy 9 → Attempted s w index index′ totals totals′ r
+    pub nine-totals : (n : ℕ) (index′ : List ℕ) (totals′ : List ℤ) (r : Built) → n ≡ nodeNumber s w → length totals < n + 1 → r ≡ refusedBy 9 → ListAttempted s w index index′ totals totals′ r
     nine-totals n index′ totals′ r en h er =
         attempt-9 index′ totals′ r er (or-true (ltb 65535 (nodeNumber s w)) (ltb (length index) (8 + 6 * nodeNumber s w) || ltb (length totals) (nodeNumber s w + 1))
         (or-true (ltb (length index) (8 + 6 * nodeNumber s w)) (ltb (length totals) (nodeNumber s w + 1)) (lt-ltb (length totals) (nodeNumber s w + 1) (omega arith))))
@@ -128,15 +123,14 @@ module _ (s : List ℕ) (w : ℕ) (index : List ℕ) (totals : List ℤ) where
     -- an accepted build
     pub attempt-done : (order shared : List ℕ) → Ready s w order shared → (n check left : ℕ) (index₁ index′ : List ℕ) (totals′ : List ℤ) → n ≡ nodeNumber s w → 8 + 6 * n ≤ length index → n + 1 ≤ length totals
         → index₁ ≡ sets index 8 (flat (levelledBodies (sortedLines s w))) → check ≡ checked 0 (take (8 + 6 * n - 8) (drop 8 index₁)) → index′ ≡ cond (ltb (length index₁) 8) index₁ (sets index₁ 0 (contentsWords n check)) → totals′ ≡ front (replicate (n + 1) (pos 0)) totals
-        → left ≡ length (filter blankLine (linesAt s w order)) → Attempted s w index index′ totals totals′ (record { refusal = 0; nodes = n; left = left })
-    unfolding levelledBuilt levelledIndex levelledTotals
+        → left ≡ length (filter blankLine (linesAt s w order)) → ListAttempted s w index index′ totals totals′ (record { refusal = 0; nodes = n; left = left })
     attempt-done order shared ready n check left index₁ index′ totals′ en room space all sums ei et eb = record {
       answer =
           ap₂ (λ x t. record { refusal = x; nodes = cond t n 0; left = cond t left 0 }) (sym none) (sym zero-is)
           ∙ ap₂ (λ x y. record { refusal = levelledRefusal s w (length index) (length totals); nodes = cond (eqb (levelledRefusal s w (length index) (length totals)) 0) x 0; left = cond (eqb (levelledRefusal s w (length index) (length totals)) 0) y 0 })
           en (eb ∙ ap (λ L. length (filter blankLine L)) (ready .lines) ∙ sort-count lineBefore blankLine (linesOf s w));
-      index-is = λ z. image ∙ sym (ap (λ t. cond t (front (imageWords (levelledBodies (sortedLines s w))) index) (replicate (length index) 0)) zero-is);
-      totals-are = λ z. et ∙ sym (ap (λ t. cond t (front (replicate (nodeNumber s w + 1) (pos 0)) totals) (replicate (length totals) (pos 0))) zero-is ∙ ap (λ k. front (replicate (k + 1) (pos 0)) totals) (sym en));
+      index-is = λ z. image;
+      totals-are = λ z. et ∙ ap (λ k. front (replicate (k + 1) (pos 0)) totals) en;
     }
       where
         nine : refusal9 (nodeNumber s w) (length index) (length totals) ≡ false
@@ -183,28 +177,20 @@ module _ (s : List ℕ) (w : ℕ) where
   pub few-lines : length s / w ≤ 512 → refusal19 s w ≡ false
   few-lines h = le-ltb 512 (length s / w) h
 
--- ---- a refused build is cleared
+-- ---- once it is settled
 
-module _ (s : List ℕ) (w : ℕ) (index index′ : List ℕ) (totals totals′ : List ℤ) (r : Built) (v : Attempted s w index index′ totals totals′ r) where
-  refusal-is : r .refusal ≡ levelledRefusal s w (length index) (length totals)
+module _ (s : List ℕ) (w : ℕ) (index index′ : List ℕ) (totals totals′ : List ℤ) (r : Built) (v : ListAttempted s w index index′ totals totals′ r) where
+  pub list-answer : r ≡ levelledBuilt s w (length index) (length totals)
   unfolding levelledBuilt
-  refusal-is = ap (λ (x : Built). x .refusal) (v .answer)
+  list-answer = v .answer
 
-  pub kept-index : r .refusal ≡ 0 → index′ ≡ levelledIndex s w index (length totals)
-  kept-index e = v .index-is (sym refusal-is ∙ e)
-
-  pub kept-totals : r .refusal ≡ 0 → totals′ ≡ levelledTotals s w (length index) totals
-  kept-totals e = v .totals-are (sym refusal-is ∙ e)
-
-  pub cleared-index : (zeros : List ℕ) → r .refusal ≢ 0 → length index′ ≡ length index → zeros ≡ replicate (length index′) 0 → zeros ≡ levelledIndex s w index (length totals)
+  pub list-index : (index″ : List ℕ) → length index′ ≡ length index → index″ ≡ cond (eqb (r .refusal) 0) index′ (replicate (length index′) 0) → index″ ≡ levelledIndex s w index (length totals)
   unfolding levelledIndex
-  cleared-index zeros n l e =
-      e ∙ ap (λ k. replicate k 0) l ∙ sym (ap (λ t. cond t (front (imageWords (levelledBodies (sortedLines s w))) index) (replicate (length index) 0)) (ne-eqb (levelledRefusal s w (length index) (length totals)) 0 (λ z. n (refusal-is ∙ z))))
+  list-index = settled-index (levelledOutcome s w) index index′ totals totals′ r v
 
-  pub cleared-totals : (zeros : List ℤ) → r .refusal ≢ 0 → length totals′ ≡ length totals → zeros ≡ replicate (length totals′) (pos 0) → zeros ≡ levelledTotals s w (length index) totals
+  pub list-totals : (totals″ : List ℤ) → length totals′ ≡ length totals → totals″ ≡ cond (eqb (r .refusal) 0) totals′ (replicate (length totals′) (pos 0)) → totals″ ≡ levelledTotals s w (length index) totals
   unfolding levelledTotals
-  cleared-totals zeros n l e =
-      e ∙ ap (λ k. replicate k (pos 0)) l ∙ sym (ap (λ t. cond t (front (replicate (nodeNumber s w + 1) (pos 0)) totals) (replicate (length totals) (pos 0))) (ne-eqb (levelledRefusal s w (length index) (length totals)) 0 (λ z. n (refusal-is ∙ z))))
+  list-totals = settled-totals (levelledOutcome s w) index index′ totals totals′ r v
 
 -- the first n of so many
 pub taken : (n m : ℕ) (xs : List ℕ) → length xs ≡ m → n ≤ m → length (take n xs) ≡ n

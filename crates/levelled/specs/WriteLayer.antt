@@ -10,8 +10,10 @@ use lib.Seq.{sets}
 use Rattle.image.specs.declared.Body.{Body}
 use Rattle.image.specs.Layout.{flat}
 use Rattle.built.specs.declared.Built.{Built}
+use Rattle.built.specs.OutcomeLayer.{Attempted}
+use Rattle.levels.specs.OutcomeLayer.{levelledOutcome}
 use Rattle.forest.specs.Nodes.{lastNode, rankOf}
-use Rattle.levels.specs.Levelled.{sortedLines, filledBeginnings, levelledNodes, levelledBodies, levelledRefusal, levelledBuilt, levelledIndex, levelledTotals}
+use Rattle.levels.specs.Levelled.{sortedLines, filledBeginnings, levelledNodes, levelledBodies, levelledRefusal}
 use Rattle.levels.specs.LineLayer.{lineAt, common}
 use Rattle.levels.specs.PassLayer.{lineBeside, passAt}
 use Rattle.levelled.specs.declared.Line.{Line}
@@ -91,7 +93,5 @@ pub record Lined (S : List (List ℕ)) (i n n′ root′ : ℕ) (parents index i
 -- ---- the whole
 
 -- what a build answers and leaves before a refused one is cleared
-pub record Attempted (s : List ℕ) (width : ℕ) (index index′ : List ℕ) (totals totals′ : List ℤ) (r : Built) : Type 0 where
-  pub answer : r ≡ levelledBuilt s width (length index) (length totals)
-  pub index-is : levelledRefusal s width (length index) (length totals) ≡ 0 → index′ ≡ levelledIndex s width index (length totals)
-  pub totals-are : levelledRefusal s width (length index) (length totals) ≡ 0 → totals′ ≡ levelledTotals s width (length index) totals
+abbrev pub ListAttempted : (s : List ℕ) (width : ℕ) (index index′ : List ℕ) (totals totals′ : List ℤ) (r : Built) → Type 0
+ListAttempted s width index index′ totals totals′ r = Attempted (levelledOutcome s width) (levelledRefusal s width (length index) (length totals)) index index′ totals totals′ r

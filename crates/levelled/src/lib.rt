@@ -11,7 +11,7 @@ ghost use Rattle.image.specs.Layout.{flat};
 ghost use Rattle.levels.specs.Levelled.{sortedLines, levelledNodes, levelledBodies, blankLine, refusal18, refusal19, levelledBuilt, levelledIndex, levelledTotals};
 ghost use Rattle.levels.specs.LineLayer.{cells, lineAt, linesAt, filledNumber, Ready};
 ghost use Rattle.levels.specs.PassLayer.{lineBeside, freshBeginnings};
-ghost use Rattle.levelled.specs.WriteLayer.{CountsBefore, NextLine, TreeEnds, EndsAt, endOf, InPlace, Between, Lined, Attempted};
+ghost use Rattle.levelled.specs.WriteLayer.{CountsBefore, NextLine, TreeEnds, EndsAt, endOf, InPlace, Between, Lined, ListAttempted};
 use built::Built;
 use image::Body;
 use line_order::line_start;
@@ -306,7 +306,7 @@ fn finish(
     totals: &mut [i64],
 ) -> Built
     requires { ⌜ (1 ≤ width) × (refusal18 (now lines) width ≡ false) × (refusal19 (now lines) width ≡ false) × (Ready (now lines) width (now order) (now shared)) × (length (now firsts) ≡ length (now order) + 1) ⌝ }
-    ensures { λ r. ⌜ Attempted (now (lines .entry)) width (now (index .entry)) (now (index .exit)) (now (totals .entry)) (now (totals .exit)) r ⌝ }
+    ensures { λ r. ⌜ ListAttempted (now (lines .entry)) width (now (index .entry)) (now (index .exit)) (now (totals .entry)) (now (totals .exit)) r ⌝ }
 {
     let n = count_nodes(lines, width, order, shared, firsts);
     let room = image::bodies_end(n);
@@ -340,7 +340,7 @@ fn run(
     totals: &mut [i64],
 ) -> Built
     requires { ⌜ (refusal18 (now lines) width ≡ false) × (refusal19 (now lines) width ≡ false) × (1 ≤ width) × (width ≤ 8) × (length (now order) ≤ 512) × (length (now order) ≡ length (now lines) / width) × (length (now shared) ≡ length (now order)) × (length (now firsts) ≡ length (now order) + 1) ⌝ }
-    ensures { λ r. ⌜ Attempted (now (lines .entry)) width (now (index .entry)) (now (index .exit)) (now (totals .entry)) (now (totals .exit)) r ⌝ }
+    ensures { λ r. ⌜ ListAttempted (now (lines .entry)) width (now (index .entry)) (now (index .exit)) (now (totals .entry)) (now (totals .exit)) r ⌝ }
 {
     line_order::order_lines(lines, width, order, shared);
     finish(lines, width, order, shared, firsts, index, totals)
@@ -348,7 +348,7 @@ fn run(
 
 // The build of a list. Where it is refused, both slices may hold anything.
 fn attempt(lines: &[u32], width: u32, index: &mut [u32], totals: &mut [i64]) -> Built
-    ensures { λ r. ⌜ Attempted (now (lines .entry)) width (now (index .entry)) (now (index .exit)) (now (totals .entry)) (now (totals .exit)) r ⌝ }
+    ensures { λ r. ⌜ ListAttempted (now (lines .entry)) width (now (index .entry)) (now (index .exit)) (now (totals .entry)) (now (totals .exit)) r ⌝ }
 {
     if width == 0 {
         return built::refused(18);
@@ -385,10 +385,5 @@ pub fn build_levelled(lines: &[u32], width: u32, index: &mut [u32], totals: &mut
     ensures { λ _. ⌜ now (totals .exit) ≡ levelledTotals (now (lines .entry)) width (length (now (index .entry))) (now (totals .entry)) ⌝ }
 {
     let built = attempt(lines, width, index, totals);
-    if built.refusal == 0 {
-        return built;
-    }
-    lists::clear(index);
-    lists::clear_i64(totals);
-    built
+    built::settle(built, index, totals)
 }

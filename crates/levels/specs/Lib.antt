@@ -1,4 +1,5 @@
 pub mod Levelled
+pub mod OutcomeLayer
 pub mod LineLayer
 pub mod PassLayer
 pub mod LineLaws
