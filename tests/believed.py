@@ -20,10 +20,11 @@ ENTRIES = "board history build levelled navigate sums index_check whole_replay f
 
 # The theorems whose statements are followed.
 THEOREMS = {
-    "guarantee": "guarantee sound-build unsound-build levelled-build marked-cases built-accepted built-distances built-links",
+    "guarantee": "guarantee sound-build unsound-build sound-shortest unsound-shortest levelled-build marked-cases built-accepted built-distances built-links",
     "options": "taken-apart composed",
     "islands": "entries-entered entered-unique",
     "nodes": "joining-unique nodes-unique entry-closes entry-shares accepted-leaves-none",
+    "shortest": "shortest-unique",
     "machine": "simulation final-state earlier-and-later undo-redo redo-undo board-undo-redo board-redo-undo",
     "listing": "listing-outcome",
 }

@@ -84,13 +84,12 @@ fn attempt_shortest(
 ) -> Built
     ensures { λ r. ⌜ ShortestAttempted board (startRule start (now (list .entry))) (now (index .entry)) (now (index .exit)) (now (totals .entry)) (now (totals .exit)) r ⌝ }
 {
-    if !board.sound() {
-        return built::refused(1);
+    if board.sound() {
+        let held = board.rows;
+        let count = board.count;
+        return assemble::build_rows(held, count, Placement::Shortest, start, list, index, totals);
     }
-    let held = board.rows;
-    let count = board.count;
-    let placement = Placement::Shortest;
-    assemble::build_rows(held, count, placement, start, list, index, totals)
+    built::refused(1)
 }
 
 // Builds the index of a board in which each numeral stands once, as close to a start row as it can, and its running totals. A refused build leaves both slices all zero.

@@ -1,5 +1,4 @@
 use mathlib.Core.Path.{sym, _∙_}
-use borrow.Author.Tests.{not-true, not-false}
 use Rattle.board.specs.Laws.{sound-count}
 use Rattle.build.specs.BuildLaws.{shortest-unsound, shortest-built, sound-numbered}
 use borrow.Author.Needs.{needs}
@@ -10,16 +9,9 @@ use Rattle.build.proofs.attempt_shortest.Tie as tie
 sound-requires : tie.Need-sound-requires
 sound-requires c κs = search needs
 
-refused-requires : tie.Need-refused-requires
-refused-requires c κs = search needs
-
-returns : tie.Need-returns
-returns c =
-    shortest-unsound _ _ _ _ _ _ _ (sym (c .before .before .sound .ensures) ∙ not-true (c .before .before .sound .result) (c .before .if1 .taken)) (c .refused .ensures)
-
 build-rows-requires : tie.Need-build-rows-requires
 build-rows-requires c κs =
-    let y = sym (c .before .before .before .before .sound .ensures) ∙ not-false (c .before .before .before .before .sound .result) (c .before .before .before .if1 .left) in
+    let y = sym (c .before .before .before .before .sound .ensures) ∙ c .before .before .before .if1 .taken in
     (sound-count _ y, tt, sound-numbered _ y)
 
 same-length : tie.Need-same-length
@@ -28,19 +20,25 @@ same-length c = search needs
 same-length-2 : tie.Need-same-length-2
 same-length-2 c = search needs
 
+returns : tie.Need-returns
+returns c =
+    shortest-built _ _ _ _ _ _ _ (sym (c .before .before .before .before .before .before .before .before .sound .ensures) ∙ c .before .before .before .before .before .before .before .if1 .taken) (c .before .before .before .build-rows .ensures)
+
+refused-requires : tie.Need-refused-requires
+refused-requires c κs = search needs
+
 returns-2 : tie.Need-returns-2
 returns-2 c =
-    let y = sym (c .before .before .before .before .before .before .before .before .sound .ensures) ∙ not-false (c .before .before .before .before .before .before .before .before .sound .result) (c .before .before .before .before .before .before .before .if1 .left) in
-    shortest-built _ _ _ _ _ _ _ y (c .before .before .before .build-rows .ensures)
+    shortest-unsound _ _ _ _ _ _ _ (sym (c .before .before .sound .ensures) ∙ c .before .if1 .left) (c .refused .ensures)
 
 pub attempt-shortest-spec : {M : Type 1} → statement M
 attempt-shortest-spec =
     tie.close
     (tie.spec
     sound-requires
-    refused-requires
-    returns
     build-rows-requires
     same-length
     same-length-2
+    returns
+    refused-requires
     returns-2)
