@@ -1,32 +1,56 @@
--- What a build of a board answers and leaves before a refused one is cleared. Assumes nothing: these are definitions.
-use mathlib.Core.Bool.{Bool}
+-- What a build of a board comes to by what is asked of it, and what it answers and leaves, before and after a refused one is cleared. Assumes nothing: these are definitions.
+use mathlib.Core.Path.{_≡_}
+use mathlib.Core.Bool.{Bool, cond}
 use mathlib.Core.List.{List}
 use Prim.Native.Nat.{ℕ}
+use lib.Dec.{eqb}
 use lib.IntN.{ℤ}
 use lib.ListN.{length}
 use Rattle.rows.specs.declared.Row.{Row}
 use Rattle.board.specs.declared.Board.{Board}
 use Rattle.board.specs.Edits.{rowsOf}
 use Rattle.options.specs.declared.Depth.{Depth}
-use Rattle.options.specs.Options.{orphanOf}
+use Rattle.options.specs.Options.{orphanOf, choiceOf}
 use Rattle.built.specs.declared.Built.{Built}
-use Rattle.built.specs.OutcomeLayer.{Outcome, Attempted}
-use Rattle.nodes.specs.Refusals.{orphanChoice}
+use Rattle.built.specs.OutcomeLayer.{Outcome, answerWhen, indexWhen, totalsWhen, Attempted}
+use Rattle.nodes.specs.Refusals.{orphanChoice, refusal6, refusal7}
 use Rattle.nodes.specs.OutcomeLayer.{pathsOutcome}
 use Rattle.shortest.specs.Shortest.{shortestRefusal}
 use Rattle.shortest.specs.OutcomeLayer.{shortestOutcome}
 use Rattle.request.specs.Build.{buildRefusal}
+use Rattle.assemble.specs.declared.Placement.the-variants.{AllPaths, Shortest}
+use Rattle.build.specs.declared.Asked.{Asked}
+use Rattle.build.specs.declared.Asked.the-variants.{ByCode, ByShortest}
+use Rattle.build.specs.declared.Judged.{Judged}
 
--- over all paths
-abbrev pub boardPaths : Board → ℕ → Depth → (Row → Bool) → Outcome
-boardPaths b code depth start = pathsOutcome (rowsOf b) start depth (orphanChoice (orphanOf code))
+-- refusal 6 or 7 or 0, and where it is 0 the choices of the code
+pub record CodeJudged (code : ℕ) (depth : Depth) (r : Judged) : Type 0 where
+  pub refusal-is : r .refusal ≡ cond (refusal6 code) 6 (cond (refusal7 (orphanOf code) depth) 7 0)
+  pub placement-is : r .refusal ≡ 0 → r .placement ≡ AllPaths (choiceOf code) depth
 
-abbrev pub PathsAttempted : (b : Board) (code : ℕ) (depth : Depth) (start : Row → Bool) (index index′ : List ℕ) (totals totals′ : List ℤ) (r : Built) → Type 0
-PathsAttempted b code depth start index index′ totals totals′ r = Attempted (boardPaths b code depth start) (buildRefusal b code depth start (length index) (length totals)) index index′ totals totals′ r
+abbrev pub AskedJudged : Asked → Judged → Type 0
+AskedJudged (ByCode code depth) r = CodeJudged code depth r
+AskedJudged ByShortest r = r ≡ record { refusal = 0; placement = Shortest }
 
--- of shortest placement
-abbrev pub boardShortest : Board → (Row → Bool) → Outcome
-boardShortest b start = shortestOutcome (rowsOf b) start
+-- what the build makes, and its refusal
+abbrev pub askedOutcome : Asked → Board → (Row → Bool) → Outcome
+askedOutcome (ByCode code depth) b start = pathsOutcome (rowsOf b) start depth (orphanChoice (orphanOf code))
+askedOutcome ByShortest b start = shortestOutcome (rowsOf b) start
 
-abbrev pub ShortestAttempted : (b : Board) (start : Row → Bool) (index index′ : List ℕ) (totals totals′ : List ℤ) (r : Built) → Type 0
-ShortestAttempted b start index index′ totals totals′ r = Attempted (boardShortest b start) (shortestRefusal b start (length index) (length totals)) index index′ totals totals′ r
+abbrev pub askedRefusal : Asked → Board → (Row → Bool) → ℕ → ℕ → ℕ
+askedRefusal (ByCode code depth) b start words totals = buildRefusal b code depth start words totals
+askedRefusal ByShortest b start words totals = shortestRefusal b start words totals
+
+-- before a refused one is cleared
+abbrev pub AskedAttempted : (asked : Asked) (b : Board) (start : Row → Bool) (index index′ : List ℕ) (totals totals′ : List ℤ) (r : Built) → Type 0
+AskedAttempted asked b start index index′ totals totals′ r = Attempted (askedOutcome asked b start) (askedRefusal asked b start (length index) (length totals)) index index′ totals totals′ r
+
+-- afterwards
+abbrev pub askedAnswer : Asked → Board → (Row → Bool) → ℕ → ℕ → Built
+askedAnswer asked b start words totals = let q : ℕ = askedRefusal asked b start words totals in answerWhen (askedOutcome asked b start) q (eqb q 0)
+
+abbrev pub askedIndex : Asked → Board → (Row → Bool) → List ℕ → ℕ → List ℕ
+askedIndex asked b start index totals = indexWhen (askedOutcome asked b start) index (eqb (askedRefusal asked b start (length index) totals) 0)
+
+abbrev pub askedTotals : Asked → Board → (Row → Bool) → ℕ → List ℤ → List ℤ
+askedTotals asked b start words totals = totalsWhen (askedOutcome asked b start) totals (eqb (askedRefusal asked b start words (length totals)) 0)

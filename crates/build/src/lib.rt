@@ -2,7 +2,7 @@
 ghost use mathlib.Core.Path.{_≡_};
 ghost use lib.ListN.{length};
 ghost use Rattle.request.specs.Build.{startRule, builtOf, indexAfter, totalsAfter, defaultCode, defaultDepth, defaultStart};
-ghost use Rattle.build.specs.AttemptedLayer.{PathsAttempted, ShortestAttempted};
+ghost use Rattle.build.specs.AttemptedLayer.{CodeJudged, AskedJudged, AskedAttempted, askedAnswer, askedIndex, askedTotals};
 ghost use Rattle.shortest.specs.Shortest.{shortestBuilt, shortestIndex, shortestTotals};
 use assemble::Placement;
 use board::Board;
@@ -10,32 +10,91 @@ use built::Built;
 use options::Depth;
 use request::Start;
 
+// What is asked of a build: all paths, by an option code and a depth, or for each numeral the shortest.
+pub enum Asked {
+    ByCode(u32, Depth),
+    ByShortest,
+}
+
+// What an option code and a depth come to: refusal 6 or 7 or 0, and where it is 0 the placement.
+pub struct Judged {
+    pub refusal: u32,
+    pub placement: Placement,
+}
+
+fn judge_code(code: u32, depth: Depth) -> Judged
+    ensures { λ r. ⌜ CodeJudged code depth r ⌝ }
+{
+    if 23 < code {
+        return Judged {
+            refusal: 6,
+            placement: Placement::Shortest,
+        };
+    }
+    let choice = options::choices(code);
+    if refusals::is_depth_refused(choice.orphan, depth) {
+        return Judged {
+            refusal: 7,
+            placement: Placement::Shortest,
+        };
+    }
+    Judged {
+        refusal: 0,
+        placement: Placement::AllPaths(choice, depth),
+    }
+}
+
+fn judge(asked: Asked) -> Judged
+    ensures { λ r. ⌜ AskedJudged asked r ⌝ }
+{
+    match asked {
+        Asked::ByCode(code, depth) => judge_code(code, depth),
+        Asked::ByShortest => Judged {
+            refusal: 0,
+            placement: Placement::Shortest,
+        },
+    }
+}
+
 // The build of a board. Where it is refused, both slices may hold anything.
 fn attempt(
     board: Board,
-    code: u32,
-    depth: Depth,
+    asked: Asked,
     start: Start,
     list: &[u32],
     index: &mut [u32],
     totals: &mut [i64],
 ) -> Built
-    ensures { λ r. ⌜ PathsAttempted board code depth (startRule start (now (list .entry))) (now (index .entry)) (now (index .exit)) (now (totals .entry)) (now (totals .exit)) r ⌝ }
+    ensures { λ r. ⌜ AskedAttempted asked board (startRule start (now (list .entry))) (now (index .entry)) (now (index .exit)) (now (totals .entry)) (now (totals .exit)) r ⌝ }
 {
     if !board.sound() {
         return built::refused(1);
     }
-    if 23 < code {
-        return built::refused(6);
-    }
-    let choice = options::choices(code);
-    if refusals::is_depth_refused(choice.orphan, depth) {
-        return built::refused(7);
+    let judged = judge(asked);
+    if judged.refusal != 0 {
+        return built::refused(judged.refusal);
     }
     let rows = board.rows;
     let n = board.count;
-    let placement = Placement::AllPaths(choice, depth);
+    let placement = judged.placement;
     assemble::build_rows(rows, n, placement, start, list, index, totals)
+}
+
+// What every build does: where it is refused, both slices become all zero. The builds below only say what is asked, so that there is one copy of this code, and no copy of the board is made for it.
+fn run(
+    board: Board,
+    asked: Asked,
+    start: Start,
+    list: &[u32],
+    index: &mut [u32],
+    totals: &mut [i64],
+) -> Built
+    ensures { λ r. ⌜ r ≡ askedAnswer asked board (startRule start (now (list .entry))) (length (now (index .entry))) (length (now (totals .entry))) ⌝ }
+    ensures { λ _. ⌜ now (index .exit) ≡ askedIndex asked board (startRule start (now (list .entry))) (now (index .entry)) (length (now (totals .entry))) ⌝ }
+    ensures { λ _. ⌜ now (totals .exit) ≡ askedTotals asked board (startRule start (now (list .entry))) (length (now (index .entry))) (now (totals .entry)) ⌝ }
+{
+    let built = attempt(board, asked, start, list, index, totals);
+    built::settle(built, index, totals)
 }
 
 // Builds the index of a board and its running totals. A refused build leaves both slices all zero.
@@ -52,8 +111,14 @@ pub fn build(
     ensures { λ _. ⌜ now (index .exit) ≡ indexAfter board code depth (startRule start (now (list .entry))) (now (index .entry)) (length (now (totals .entry))) ⌝ }
     ensures { λ _. ⌜ now (totals .exit) ≡ totalsAfter board code depth (startRule start (now (list .entry))) (length (now (index .entry))) (now (totals .entry)) ⌝ }
 {
-    let built = attempt(board, code, depth, start, list, index, totals);
-    built::settle(built, index, totals)
+    run(
+        board,
+        Asked::ByCode(code, depth),
+        start,
+        list,
+        index,
+        totals,
+    )
 }
 
 // The build by default: code 0, no depth, the rows with parent 0.
@@ -74,24 +139,6 @@ pub fn build_default(board: Board, index: &mut [u32], totals: &mut [i64]) -> Bui
     )
 }
 
-// The build of shortest placement. Where it is refused, both slices may hold anything.
-fn attempt_shortest(
-    board: Board,
-    start: Start,
-    list: &[u32],
-    index: &mut [u32],
-    totals: &mut [i64],
-) -> Built
-    ensures { λ r. ⌜ ShortestAttempted board (startRule start (now (list .entry))) (now (index .entry)) (now (index .exit)) (now (totals .entry)) (now (totals .exit)) r ⌝ }
-{
-    if board.sound() {
-        let held = board.rows;
-        let count = board.count;
-        return assemble::build_rows(held, count, Placement::Shortest, start, list, index, totals);
-    }
-    built::refused(1)
-}
-
 // Builds the index of a board in which each numeral stands once, as close to a start row as it can, and its running totals. A refused build leaves both slices all zero.
 pub fn build_shortest(
     board: Board,
@@ -104,6 +151,5 @@ pub fn build_shortest(
     ensures { λ _. ⌜ now (index .exit) ≡ shortestIndex board (startRule start (now (list .entry))) (now (index .entry)) (length (now (totals .entry))) ⌝ }
     ensures { λ _. ⌜ now (totals .exit) ≡ shortestTotals board (startRule start (now (list .entry))) (length (now (index .entry))) (now (totals .entry)) ⌝ }
 {
-    let attempted = attempt_shortest(board, start, list, index, totals);
-    built::settle(attempted, index, totals)
+    run(board, Asked::ByShortest, start, list, index, totals)
 }

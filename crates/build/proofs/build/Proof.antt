@@ -1,15 +1,12 @@
 use mathlib.Core.Path.{_∙_}
-use Rattle.build.specs.BuildLaws.{answer-is, index-after, totals-after}
+use Rattle.build.specs.BuildLaws.{paths-answer, paths-index, paths-totals}
 use borrow.Author.Needs.{needs}
 use Prim.Native.Nat.{_-_}
 use Rattle.build.proofs.build.Statement.{statement}
 use Rattle.build.proofs.build.Tie as tie
 
-attempt-requires : tie.Need-attempt-requires
-attempt-requires c κs = search needs
-
-settle-requires : tie.Need-settle-requires
-settle-requires c κs = search needs
+run-requires : tie.Need-run-requires
+run-requires c κs = search needs
 
 same-length : tie.Need-same-length
 same-length c = search needs
@@ -19,10 +16,8 @@ same-length-2 c = search needs
 
 returns : tie.Need-returns
 returns c =
-    let w = c .before .before .before .before .before .before .before .before .before .attempt .ensures in
-    let k = c .before .before .before .before .before .before .before .before .before .attempt .kept in
-    (c .before .before .before .settle .ensures .0 ∙ answer-is _ _ _ _ _ _ _ _ _ w, (index-after _ _ _ _ _ _ _ _ _ w _ (c .before .before .before .before .before .before .before .before .index .given) (c .before .before .before .settle .ensures .1 .0), totals-after _ _ _ _ _ _ _ _ _ w _ (c .before .before .before .before .before .before .totals .given) (c .before .before .before .settle .ensures .1 .1)))
+    let p = c .before .before .before .run .ensures in
+    (p .0 ∙ paths-answer _ _ _ _ _ _, (p .1 .0 ∙ paths-index _ _ _ _ _ _, p .1 .1 ∙ paths-totals _ _ _ _ _ _))
 
 pub build-spec : {M : Type 1} → statement M
-build-spec =
-    tie.close (tie.spec attempt-requires settle-requires same-length same-length-2 returns)
+build-spec = tie.close (tie.spec run-requires same-length same-length-2 returns)
