@@ -1,9 +1,8 @@
--- What a build of a board comes to by what is asked of it, and what it answers and leaves, before and after a refused one is cleared. Assumes nothing: these are definitions.
+-- What a build of a board comes to by what is asked of it, and what it answers and leaves before a refused one is cleared. Assumes nothing: these are definitions.
 use mathlib.Core.Path.{_≡_}
 use mathlib.Core.Bool.{Bool, cond}
 use mathlib.Core.List.{List}
 use Prim.Native.Nat.{ℕ}
-use lib.Dec.{eqb}
 use lib.IntN.{ℤ}
 use lib.ListN.{length}
 use Rattle.rows.specs.declared.Row.{Row}
@@ -12,7 +11,7 @@ use Rattle.board.specs.Edits.{rowsOf}
 use Rattle.options.specs.declared.Depth.{Depth}
 use Rattle.options.specs.Options.{orphanOf, choiceOf}
 use Rattle.built.specs.declared.Built.{Built}
-use Rattle.built.specs.OutcomeLayer.{Outcome, answerWhen, indexWhen, totalsWhen, Attempted}
+use Rattle.built.specs.OutcomeLayer.{Outcome, Attempted}
 use Rattle.nodes.specs.Refusals.{orphanChoice, refusal6, refusal7}
 use Rattle.nodes.specs.OutcomeLayer.{pathsOutcome}
 use Rattle.shortest.specs.Shortest.{shortestRefusal}
@@ -44,13 +43,3 @@ askedRefusal ByShortest b start words totals = shortestRefusal b start words tot
 -- before a refused one is cleared
 abbrev pub AskedAttempted : (asked : Asked) (b : Board) (start : Row → Bool) (index index′ : List ℕ) (totals totals′ : List ℤ) (r : Built) → Type 0
 AskedAttempted asked b start index index′ totals totals′ r = Attempted (askedOutcome asked b start) (askedRefusal asked b start (length index) (length totals)) index index′ totals totals′ r
-
--- afterwards
-abbrev pub askedAnswer : Asked → Board → (Row → Bool) → ℕ → ℕ → Built
-askedAnswer asked b start words totals = let q : ℕ = askedRefusal asked b start words totals in answerWhen (askedOutcome asked b start) q (eqb q 0)
-
-abbrev pub askedIndex : Asked → Board → (Row → Bool) → List ℕ → ℕ → List ℕ
-askedIndex asked b start index totals = indexWhen (askedOutcome asked b start) index (eqb (askedRefusal asked b start (length index) totals) 0)
-
-abbrev pub askedTotals : Asked → Board → (Row → Bool) → ℕ → List ℤ → List ℤ
-askedTotals asked b start words totals = totalsWhen (askedOutcome asked b start) totals (eqb (askedRefusal asked b start words (length totals)) 0)

@@ -6,6 +6,7 @@ use mathlib.Core.List.{List}
 use Prim.Native.Nat.{ℕ, zero, suc}
 use native.Mathlib.Omega.{arith}
 use borrow.Author.Tests.{ltb-false}
+use lib.Dec.{eqb}
 use lib.IntN.{ℤ}
 use lib.ListN.{length, getD}
 use Rattle.rows.specs.Journal.{blank}
@@ -23,6 +24,7 @@ use Rattle.nodes.specs.Refusals.{refusal6, refusal7, refusalOf}
 use Rattle.links.specs.PreparedLayer.{WithNumerals}
 use Rattle.built.specs.declared.Built.{Built}
 use Rattle.built.specs.RefusedLayer.{refusedBy}
+use Rattle.built.specs.OutcomeLayer.{answerWhen, indexWhen, totalsWhen}
 use Rattle.built.specs.OutcomeLaws.{attempt-refused, attempt-same}
 use Rattle.request.specs.Build.{buildRefusal, builtOf, indexAfter, totalsAfter}
 use Rattle.shortest.specs.Shortest.{shortestRefusal, shortestBuilt, shortestIndex, shortestTotals}
@@ -32,7 +34,8 @@ use Rattle.assemble.specs.AssembledLayer.{shortestNine, Placeable, RowsPlaced}
 use Rattle.build.specs.declared.Asked.{Asked}
 use Rattle.build.specs.declared.Asked.the-variants.{ByCode, ByShortest}
 use Rattle.build.specs.declared.Judged.{Judged}
-use Rattle.build.specs.AttemptedLayer.{CodeJudged, AskedJudged, askedOutcome, askedRefusal, AskedAttempted, askedAnswer, askedIndex, askedTotals}
+use Rattle.build.specs.AttemptedLayer.{CodeJudged, AskedJudged, askedOutcome, askedRefusal, AskedAttempted}
+use Rattle.build.specs.Asked.{askedBuilt, askedIndex, askedTotals}
 
 -- ---- what is asked
 
@@ -113,29 +116,20 @@ pub sound-numbered : (b : Board) → soundOf b ≡ true → WithNumerals (rowsOf
 sound-numbered b s zero r z = absurd (omega (arith, r))
 sound-numbered b s (suc k) r z = absurd (omega (arith, sound-numeral b s (getD (rowsOf b) k blank) (getD-in (rowsOf b) k blank (omega (arith, r)))))
 
--- ---- what each of the builds answers and leaves
+-- ---- what it answers and leaves once it is settled
 
 module _ (b : Board) (start : Row → Bool) where
-  pub paths-answer : (code : ℕ) (depth : Depth) (words totals : ℕ) → askedAnswer (ByCode code depth) b start words totals ≡ builtOf b code depth start words totals
-  unfolding builtOf
-  paths-answer code depth words totals = refl
+  pub asked-answer : (asked : Asked) (words totals : ℕ) → answerWhen (askedOutcome asked b start) (askedRefusal asked b start words totals) (eqb (askedRefusal asked b start words totals) 0) ≡ askedBuilt asked b start words totals
+  unfolding builtOf shortestBuilt
+  asked-answer (ByCode code depth) words totals = refl
+  asked-answer ByShortest words totals = refl
 
-  pub paths-index : (code : ℕ) (depth : Depth) (index : List ℕ) (totals : ℕ) → askedIndex (ByCode code depth) b start index totals ≡ indexAfter b code depth start index totals
-  unfolding indexAfter
-  paths-index code depth index totals = refl
+  pub asked-index : (asked : Asked) (index : List ℕ) (totals : ℕ) → indexWhen (askedOutcome asked b start) index (eqb (askedRefusal asked b start (length index) totals) 0) ≡ askedIndex asked b start index totals
+  unfolding indexAfter shortestIndex
+  asked-index (ByCode code depth) index totals = refl
+  asked-index ByShortest index totals = refl
 
-  pub paths-totals : (code : ℕ) (depth : Depth) (words : ℕ) (totals : List ℤ) → askedTotals (ByCode code depth) b start words totals ≡ totalsAfter b code depth start words totals
-  unfolding totalsAfter
-  paths-totals code depth words totals = refl
-
-  pub shortest-answer : (words totals : ℕ) → askedAnswer ByShortest b start words totals ≡ shortestBuilt b start words totals
-  unfolding shortestBuilt
-  shortest-answer words totals = refl
-
-  pub shortest-index : (index : List ℕ) (totals : ℕ) → askedIndex ByShortest b start index totals ≡ shortestIndex b start index totals
-  unfolding shortestIndex
-  shortest-index index totals = refl
-
-  pub shortest-totals : (words : ℕ) (totals : List ℤ) → askedTotals ByShortest b start words totals ≡ shortestTotals b start words totals
-  unfolding shortestTotals
-  shortest-totals words totals = refl
+  pub asked-totals : (asked : Asked) (words : ℕ) (totals : List ℤ) → totalsWhen (askedOutcome asked b start) totals (eqb (askedRefusal asked b start words (length totals)) 0) ≡ askedTotals asked b start words totals
+  unfolding totalsAfter shortestTotals
+  asked-totals (ByCode code depth) words totals = refl
+  asked-totals ByShortest words totals = refl

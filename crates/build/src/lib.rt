@@ -2,7 +2,8 @@
 ghost use mathlib.Core.Path.{_≡_};
 ghost use lib.ListN.{length};
 ghost use Rattle.request.specs.Build.{startRule, builtOf, indexAfter, totalsAfter, defaultCode, defaultDepth, defaultStart};
-ghost use Rattle.build.specs.AttemptedLayer.{CodeJudged, AskedJudged, AskedAttempted, askedAnswer, askedIndex, askedTotals};
+ghost use Rattle.build.specs.AttemptedLayer.{CodeJudged, AskedJudged, AskedAttempted};
+ghost use Rattle.build.specs.Asked.{askedBuilt, askedIndex, askedTotals};
 ghost use Rattle.shortest.specs.Shortest.{shortestBuilt, shortestIndex, shortestTotals};
 use assemble::Placement;
 use board::Board;
@@ -80,8 +81,8 @@ fn attempt(
     assemble::build_rows(rows, n, placement, start, list, index, totals)
 }
 
-// What every build does: where it is refused, both slices become all zero. The builds below only say what is asked, so that there is one copy of this code, and no copy of the board is made for it.
-fn run(
+// Builds the index of a board and its running totals by what is asked. A refused build leaves both slices all zero. The builds below only say what is asked, so that there is one copy of this code, and no copy of the board is made for it.
+pub fn build_asked(
     board: Board,
     asked: Asked,
     start: Start,
@@ -89,7 +90,7 @@ fn run(
     index: &mut [u32],
     totals: &mut [i64],
 ) -> Built
-    ensures { λ r. ⌜ r ≡ askedAnswer asked board (startRule start (now (list .entry))) (length (now (index .entry))) (length (now (totals .entry))) ⌝ }
+    ensures { λ r. ⌜ r ≡ askedBuilt asked board (startRule start (now (list .entry))) (length (now (index .entry))) (length (now (totals .entry))) ⌝ }
     ensures { λ _. ⌜ now (index .exit) ≡ askedIndex asked board (startRule start (now (list .entry))) (now (index .entry)) (length (now (totals .entry))) ⌝ }
     ensures { λ _. ⌜ now (totals .exit) ≡ askedTotals asked board (startRule start (now (list .entry))) (length (now (index .entry))) (now (totals .entry)) ⌝ }
 {
@@ -111,7 +112,7 @@ pub fn build(
     ensures { λ _. ⌜ now (index .exit) ≡ indexAfter board code depth (startRule start (now (list .entry))) (now (index .entry)) (length (now (totals .entry))) ⌝ }
     ensures { λ _. ⌜ now (totals .exit) ≡ totalsAfter board code depth (startRule start (now (list .entry))) (length (now (index .entry))) (now (totals .entry)) ⌝ }
 {
-    run(
+    build_asked(
         board,
         Asked::ByCode(code, depth),
         start,
@@ -151,5 +152,5 @@ pub fn build_shortest(
     ensures { λ _. ⌜ now (index .exit) ≡ shortestIndex board (startRule start (now (list .entry))) (now (index .entry)) (length (now (totals .entry))) ⌝ }
     ensures { λ _. ⌜ now (totals .exit) ≡ shortestTotals board (startRule start (now (list .entry))) (length (now (index .entry))) (now (totals .entry)) ⌝ }
 {
-    run(board, Asked::ByShortest, start, list, index, totals)
+    build_asked(board, Asked::ByShortest, start, list, index, totals)
 }

@@ -23,48 +23,52 @@ use Rattle.machine.specs.Calls.{final, MinutesFit, AllFit}
 use Rattle.history.specs.Encoding.{callOf, callAt, firstCalls, decoded, replayRefusal, replayedOf, refusalsOf}
 use Rattle.machine.specs.SimulationLaws.{final-rows, final-kept, final-undone, final-valid}
 use Rattle.history.specs.ReplayLaws.{length-first, replay-simulates}
-use Rattle.options.specs.declared.Depth.{Depth}
 use Rattle.navigate.specs.declared.Listed.{Listed}
 use Rattle.navigate.specs.Navigate.{descendantsAnswer, descendantsOut}
 use Rattle.sums.specs.declared.Summed.{Summed}
 use Rattle.sums.specs.Sums.{subtreeAnswer}
 use Rattle.request.specs.declared.Start.{Start}
 use Rattle.built.specs.declared.Built.{Built}
-use Rattle.request.specs.Build.{startRule, builtOf, indexAfter, totalsAfter}
+use Rattle.request.specs.Build.{startRule}
+use Rattle.build.specs.declared.Asked.{Asked}
+use Rattle.build.specs.declared.Asked.the-variants.{ByCode, ByShortest}
+use Rattle.build.specs.Asked.{askedBuilt, askedIndex, askedTotals}
+use Rattle.answers.specs.Answers.{Navigation}
+use Rattle.guarantee.specs.Builds.{Refused}
 use Rattle.whole_replay.specs.declared.ReplayedAll.{ReplayedAll}
 use Rattle.guarantee.specs.Guarantee.{Guarantee}
 use Rattle.guarantee.specs.GuaranteeLaws.{guarantee}
-use Rattle.whole_replay.specs.Running.{notReplayed, indexLeft, totalsLeft, outLeft, replayAllAnswer, Demand3}
+use Rattle.whole_replay.specs.Running.{notReplayed, indexLeft, totalsLeft, outLeft, replayAllAnswer, AskedBuild, nodesBuilt, minutesBuilt, Demand3}
 
 -- ---- after a replay
 
 -- `answer` and three lent slices afterwards are what the contract of `replay_all` says of a replay
-pub record Runs (done : Replayed) (code : ℕ) (depth : Depth) (starts : Row → Bool) (index : List ℕ) (totals : List ℤ) (rank : ℕ) (lower upper : ℤ) (out : List ℕ)
+pub record Runs (done : Replayed) (asked : Asked) (starts : Row → Bool) (index : List ℕ) (totals : List ℤ) (rank : ℕ) (lower upper : ℤ) (out : List ℕ)
     (answer : ReplayedAll) (index' : List ℕ) (totals' : List ℤ) (out' : List ℕ) : Type 0 where
-  pub answer-is : answer ≡ replayAllAnswer done code depth starts index totals rank lower upper out
-  pub index-is : index' ≡ indexLeft done code depth starts index totals
-  pub totals-is : totals' ≡ totalsLeft done code depth starts index totals
-  pub out-is : out' ≡ outLeft done code depth starts index totals rank lower upper out
+  pub answer-is : answer ≡ replayAllAnswer done asked starts index totals rank lower upper out
+  pub index-is : index' ≡ indexLeft done asked starts index totals
+  pub totals-is : totals' ≡ totalsLeft done asked starts index totals
+  pub out-is : out' ≡ outLeft done asked starts index totals rank lower upper out
 
-module _ (done : Replayed) (code : ℕ) (depth : Depth) (starts : Row → Bool) (index : List ℕ) (totals : List ℤ) (rank : ℕ) (lower upper : ℤ) (out : List ℕ) where
+module _ (done : Replayed) (asked : Asked) (starts : Row → Bool) (index : List ℕ) (totals : List ℤ) (rank : ℕ) (lower upper : ℤ) (out : List ℕ) where
   abbrev Run : ReplayedAll → List ℕ → List ℤ → List ℕ → Type 0
-  Run = Runs done code depth starts index totals rank lower upper out
+  Run = Runs done asked starts index totals rank lower upper out
 
   -- the build and the calls of navigation one after another
   pub replayed-runs : done .refusal ≡ 0 → (lo hi : ℤ) → lo ≡ lower → hi ≡ upper → (b : Built) (i : List ℕ) (t : List ℤ) (l : Listed) (o : List ℕ) (s : Summed)
-      → b ≡ builtOf (done .board) code depth starts (length index) (length totals)
-      → i ≡ indexAfter (done .board) code depth starts index (length totals)
-      → t ≡ totalsAfter (done .board) code depth starts (length index) totals
+      → b ≡ askedBuilt asked (done .board) starts (length index) (length totals)
+      → i ≡ askedIndex asked (done .board) starts index (length totals)
+      → t ≡ askedTotals asked (done .board) starts (length index) totals
       → l ≡ descendantsAnswer i rank lo hi out → o ≡ descendantsOut i rank lo hi out → s ≡ subtreeAnswer i t rank
       → Run (record { replayed = done .refusal; calls = done .calls; kept = done .board .kept; undone = done .board .undone; count = done .board .count; built = b; listed = l; summed = s }) i t o
   replayed-runs z lo hi at-lower at-upper b i t l o s eb ei et el eo es =
-      let left : List ℕ = indexAfter (done .board) code depth starts index (length totals) in
+      let left : List ℕ = askedIndex asked (done .board) starts index (length totals) in
       let yes : eqb (done .refusal) 0 ≡ true = eq-eqb (done .refusal) 0 z in
       let il : l ≡ descendantsAnswer left rank lower upper out
       = el ∙ ap (λ (x : ℤ). descendantsAnswer i rank x hi out) at-lower ∙ ap (λ (x : ℤ). descendantsAnswer i rank lower x out) at-upper ∙ ap (λ (x : List ℕ). descendantsAnswer x rank lower upper out) ei in
       let io : o ≡ descendantsOut left rank lower upper out
       = eo ∙ ap (λ (x : ℤ). descendantsOut i rank x hi out) at-lower ∙ ap (λ (x : ℤ). descendantsOut i rank lower x out) at-upper ∙ ap (λ (x : List ℕ). descendantsOut x rank lower upper out) ei in
-      let is : s ≡ subtreeAnswer left (totalsAfter (done .board) code depth starts (length index) totals) rank
+      let is : s ≡ subtreeAnswer left (askedTotals asked (done .board) starts (length index) totals) rank
       = es ∙ ap (λ (x : List ℕ). subtreeAnswer x t rank) ei ∙ ap (λ (x : List ℤ). subtreeAnswer left x rank) et in
       record {
         answer-is = rw yes (λ k. record { replayed = done .refusal; calls = done .calls; kept = done .board .kept; undone = done .board .undone; count = done .board .count; built = eb k; listed = il k; summed = is k });
@@ -86,11 +90,11 @@ module _ (done : Replayed) (code : ℕ) (depth : Depth) (starts : Row → Bool) 
       go true q x e = eqb-true (done .refusal) 0 q
       go false q x e = sym (ap (λ (w : ReplayedAll). w .replayed) e) ∙ z
 
-pub runs-moved : (done full : Replayed) → done ≡ full → (code : ℕ) (depth : Depth) (starts : Row → Bool) (index : List ℕ) (totals : List ℤ) (rank : ℕ) (lower upper : ℤ) (out : List ℕ)
+pub runs-moved : (done full : Replayed) → done ≡ full → (asked : Asked) (starts : Row → Bool) (index : List ℕ) (totals : List ℤ) (rank : ℕ) (lower upper : ℤ) (out : List ℕ)
     (answer : ReplayedAll) (index' : List ℕ) (totals' : List ℤ) (out' : List ℕ)
-    → Runs done code depth starts index totals rank lower upper out answer index' totals' out' → Runs full code depth starts index totals rank lower upper out answer index' totals' out'
-runs-moved done full e code depth starts index totals rank lower upper out answer index' totals' out' =
-    subst (λ (d : Replayed). Runs d code depth starts index totals rank lower upper out answer index' totals' out') e
+    → Runs done asked starts index totals rank lower upper out answer index' totals' out' → Runs full asked starts index totals rank lower upper out answer index' totals' out'
+runs-moved done full e asked starts index totals rank lower upper out answer index' totals' out' =
+    subst (λ (d : Replayed). Runs d asked starts index totals rank lower upper out answer index' totals' out') e
 
 -- ---- the replay's board
 
@@ -147,29 +151,44 @@ first-fit words w (suc n) = one-more-fits (firstCalls words n) (callAt words n) 
 
 -- ---- demand 3
 
-module _ (words refusals : List ℕ) (code : ℕ) (depth : Depth) (rule : Start) (list index : List ℕ) (totals : List ℤ) (rank : ℕ) (lower upper : ℤ) (out : List ℕ) where
+-- what is asked of a build after the calls cs, with the navigation on what it left
+module _ (cs : List Call) where
+  abbrev Held : (asked : Asked) (starts : Row → Bool) (answer : Built) (before index : List ℕ) (unwritten totals : List ℤ) → Type 0
+  Held asked starts answer before index unwritten totals =
+      (b : AskedBuild (after start cs .rows) starts (AllFit cs) answer before index unwritten totals asked)
+      × (answer .refusal ≡ 0 → Navigation (minutesBuilt (after start cs .rows) starts (AllFit cs) answer before index unwritten totals asked b)
+      (nodesBuilt (after start cs .rows) starts (AllFit cs) answer before index unwritten totals asked b) (AllFit cs) index totals)
+      × (answer .refusal ≢ 0 → Refused answer before index unwritten totals)
+
+  asked-build : Guarantee cs → (asked : Asked) (rule : Start) (list index : List ℕ) (totals : List ℤ)
+      → Held asked (startRule rule list) (askedBuilt asked (final emptyOf cs) (startRule rule list) (length index) (length totals))
+      index (askedIndex asked (final emptyOf cs) (startRule rule list) index (length totals)) totals (askedTotals asked (final emptyOf cs) (startRule rule list) (length index) totals)
+  asked-build g (ByCode code depth) rule list index totals = let b = g .build code depth rule list index totals in (b, b .build .navigation, b .build .refused)
+  asked-build g ByShortest rule list index totals = let b = g .shortest rule list index totals in (b, b .build .navigation, b .build .refused)
+
+module _ (words refusals : List ℕ) (asked : Asked) (rule : Start) (list index : List ℕ) (totals : List ℤ) (rank : ℕ) (lower upper : ℤ) (out : List ℕ) where
   abbrev cs : List Call
   cs = decoded words
 
   abbrev Claim : ReplayedAll → List ℕ → List ℕ → List ℤ → List ℕ → Type 0
-  Claim = Demand3 cs refusals code depth rule list index totals rank lower upper out
+  Claim = Demand3 cs refusals asked rule list index totals rank lower upper out
 
-  claim : Guarantee cs → AllWords words → Claim (replayAllAnswer (allReplayed words) code depth (startRule rule list) index totals rank lower upper out)
-      (front (answers start cs) refusals) (indexLeft (allReplayed words) code depth (startRule rule list) index totals) (totalsLeft (allReplayed words) code depth (startRule rule list) index totals)
-      (outLeft (allReplayed words) code depth (startRule rule list) index totals rank lower upper out)
+  claim : Guarantee cs → AllWords words → Claim (replayAllAnswer (allReplayed words) asked (startRule rule list) index totals rank lower upper out)
+      (front (answers start cs) refusals) (indexLeft (allReplayed words) asked (startRule rule list) index totals) (totalsLeft (allReplayed words) asked (startRule rule list) index totals)
+      (outLeft (allReplayed words) asked (startRule rule list) index totals rank lower upper out)
   claim g w =
-      let b = g .build code depth rule list index totals in
+      let b = asked-build cs g asked rule list index totals in
       record {
         calls = sym (length-first words (length words / 5));
         edits = refl;
         kept = final-kept cs;
         undone = final-undone cs;
         count = final-count cs;
-        build = b;
-        listed = λ z. b .build .navigation z .descendants rank lower upper out;
-        unlisted = λ n. b .build .refused n .navigation .descendants rank lower upper out;
-        summed = λ z. b .build .navigation z .subtree-sums (first-fit words w (length words / 5)) rank;
-        unsummed = λ n. b .build .refused n .navigation .subtree-sums rank;
+        build = b .0;
+        listed = λ z. b .1 z .descendants rank lower upper out;
+        unlisted = λ n. b .2 n .navigation .descendants rank lower upper out;
+        summed = λ z. b .1 z .subtree-sums (first-fit words w (length words / 5)) rank;
+        unsummed = λ n. b .2 n .navigation .subtree-sums rank;
       }
 
   moved : (a b : ReplayedAll) (r s i j : List ℕ) (t u : List ℤ) (o p : List ℕ) → a ≡ b → r ≡ s → i ≡ j → t ≡ u → o ≡ p → Claim b s j u p → Claim a r i t o
@@ -182,13 +201,13 @@ module _ (words refusals : List ℕ) (code : ℕ) (depth : Depth) (rule : Start)
 
   -- what `replay_all` answers and leaves, by its contract, where the words are some calls' and the replay isn't refused, is what demand 3 says of these calls
   pub replay-all-guaranteed : (answer : ReplayedAll) (refusals' index' : List ℕ) (totals' : List ℤ) (out' : List ℕ)
-      → Runs (replayedOf words (length refusals)) code depth (startRule rule list) index totals rank lower upper out answer index' totals' out'
+      → Runs (replayedOf words (length refusals)) asked (startRule rule list) index totals rank lower upper out answer index' totals' out'
       → refusals' ≡ refusalsOf words refusals
       → AllWords words → answer .replayed ≡ 0
       → Claim answer refusals' index' totals' out'
   replay-all-guaranteed answer refusals' index' totals' out' r er w z =
       let s : Row → Bool = startRule rule list in
-      let none = runs-replayed (replayedOf words (length refusals)) code depth s index totals rank lower upper out answer index' totals' out' r z in
+      let none = runs-replayed (replayedOf words (length refusals)) asked s index totals rank lower upper out answer index' totals' out' r z in
       let no = replayed-zero words (length refusals) none in
-      let full = runs-moved _ _ (replayed-is words (length refusals) no) code depth s index totals rank lower upper out answer index' totals' out' r in
+      let full = runs-moved _ _ (replayed-is words (length refusals) no) asked s index totals rank lower upper out answer index' totals' out' r in
       moved _ _ _ _ _ _ _ _ _ _ (full .answer-is) (er ∙ replay-simulates words refusals no .refusals) (full .index-is) (full .totals-is) (full .out-is) (claim (guarantee cs) w)

@@ -4,16 +4,15 @@ ghost use lib.ListN.{length};
 ghost use Rattle.history.specs.Encoding.{decoded, replayedOf, refusalsOf};
 ghost use Rattle.request.specs.Build.{startRule};
 ghost use Rattle.whole_replay.specs.Running.{notReplayed, replayAllAnswer, indexLeft, totalsLeft, outLeft, Demand3};
+use build::Asked;
 use built::Built;
 use navigate::Listed;
-use options::Depth;
 use request::Start;
 use sums::Summed;
 
-// What is to be built: the option code, the depth and the start rule.
+// What is to be built: all paths or the shortest, and the start rule.
 pub struct BuildOptions {
-    pub code: u32,
-    pub depth: Depth,
+    pub asked: Asked,
     pub start: Start,
 }
 
@@ -78,12 +77,12 @@ pub fn replay_all(
     question: Question,
     out: &mut [u32],
 ) -> ReplayedAll
-    ensures { λ r. ⌜ r ≡ replayAllAnswer (replayedOf (now (words .entry)) (length (now (refusals .entry)))) (options .code) (options .depth) (startRule (options .start) (now (list .entry))) (now (index .entry)) (now (totals .entry)) (question .rank) (question .lower) (question .upper) (now (out .entry)) ⌝ }
+    ensures { λ r. ⌜ r ≡ replayAllAnswer (replayedOf (now (words .entry)) (length (now (refusals .entry)))) (options .asked) (startRule (options .start) (now (list .entry))) (now (index .entry)) (now (totals .entry)) (question .rank) (question .lower) (question .upper) (now (out .entry)) ⌝ }
     ensures { λ _. ⌜ now (refusals .exit) ≡ refusalsOf (now (words .entry)) (now (refusals .entry)) ⌝ }
-    ensures { λ _. ⌜ now (index .exit) ≡ indexLeft (replayedOf (now (words .entry)) (length (now (refusals .entry)))) (options .code) (options .depth) (startRule (options .start) (now (list .entry))) (now (index .entry)) (now (totals .entry)) ⌝ }
-    ensures { λ _. ⌜ now (totals .exit) ≡ totalsLeft (replayedOf (now (words .entry)) (length (now (refusals .entry)))) (options .code) (options .depth) (startRule (options .start) (now (list .entry))) (now (index .entry)) (now (totals .entry)) ⌝ }
-    ensures { λ _. ⌜ now (out .exit) ≡ outLeft (replayedOf (now (words .entry)) (length (now (refusals .entry)))) (options .code) (options .depth) (startRule (options .start) (now (list .entry))) (now (index .entry)) (now (totals .entry)) (question .rank) (question .lower) (question .upper) (now (out .entry)) ⌝ }
-    ensures { λ r. ⌜ (r .replayed ≡ 0 → Demand3 (decoded (now (words .entry))) (now (refusals .entry)) (options .code) (options .depth) (options .start) (now (list .entry)) (now (index .entry)) (now (totals .entry)) (question .rank) (question .lower) (question .upper) (now (out .entry)) r (now (refusals .exit)) (now (index .exit)) (now (totals .exit)) (now (out .exit))) ⌝ }
+    ensures { λ _. ⌜ now (index .exit) ≡ indexLeft (replayedOf (now (words .entry)) (length (now (refusals .entry)))) (options .asked) (startRule (options .start) (now (list .entry))) (now (index .entry)) (now (totals .entry)) ⌝ }
+    ensures { λ _. ⌜ now (totals .exit) ≡ totalsLeft (replayedOf (now (words .entry)) (length (now (refusals .entry)))) (options .asked) (startRule (options .start) (now (list .entry))) (now (index .entry)) (now (totals .entry)) ⌝ }
+    ensures { λ _. ⌜ now (out .exit) ≡ outLeft (replayedOf (now (words .entry)) (length (now (refusals .entry)))) (options .asked) (startRule (options .start) (now (list .entry))) (now (index .entry)) (now (totals .entry)) (question .rank) (question .lower) (question .upper) (now (out .entry)) ⌝ }
+    ensures { λ r. ⌜ (r .replayed ≡ 0 → Demand3 (decoded (now (words .entry))) (now (refusals .entry)) (options .asked) (options .start) (now (list .entry)) (now (index .entry)) (now (totals .entry)) (question .rank) (question .lower) (question .upper) (now (out .entry)) r (now (refusals .exit)) (now (index .exit)) (now (totals .exit)) (now (out .exit))) ⌝ }
 {
     let done = history::replay(words, refusals);
     let replayed = done.refusal;
@@ -95,10 +94,9 @@ pub fn replay_all(
     let kept = board.kept;
     let undone = board.undone;
     let count = board.count;
-    let code = options.code;
-    let depth = options.depth;
+    let asked = options.asked;
     let start = options.start;
-    let built = build::build(board, code, depth, start, list, index, totals);
+    let built = build::build_asked(board, asked, start, list, index, totals);
     let rank = question.rank;
     let lower = question.lower;
     let upper = question.upper;

@@ -26,15 +26,15 @@ returns c =
     let w = y .before .before .before .before .before .before in
     let a = w .before .args in
     let p = y .replay .ensures in
-    let runs = runs-moved _ _ (p .0) (a .options .code) (a .options .depth) _ (now (a .index)) (now (a .totals)) (a .question .rank) (a .question .lower) (a .question .upper) (now (a .out)) _ _ _ _
-    (refused-runs _ (a .options .code) (a .options .depth) _ (now (a .index)) (now (a .totals)) (a .question .rank) (a .question .lower) (a .question .upper) (now (a .out)) (c .before .if1 .taken) _ (c .not-replayed .ensures)) in
+    let runs = runs-moved _ _ (p .0) (a .options .asked) _ (now (a .index)) (now (a .totals)) (a .question .rank) (a .question .lower) (a .question .upper) (now (a .out)) _ _ _ _
+    (refused-runs _ (a .options .asked) _ (now (a .index)) (now (a .totals)) (a .question .rank) (a .question .lower) (a .question .upper) (now (a .out)) (c .before .if1 .taken) _ (c .not-replayed .ensures)) in
     let demand =
-    replay-all-guaranteed (now (a .words)) (now (a .refusals)) (a .options .code) (a .options .depth) (a .options .start) (now (a .list)) (now (a .index)) (now (a .totals)) (a .question .rank) (a .question .lower) (a .question .upper) (now (a .out)) _ _ _ _ _
+    replay-all-guaranteed (now (a .words)) (now (a .refusals)) (a .options .asked) (a .options .start) (now (a .list)) (now (a .index)) (now (a .totals)) (a .question .rank) (a .question .lower) (a .question .upper) (now (a .out)) _ _ _ _ _
     runs (p .1) (λ k. w .shared-slice-known .given k .fits) in
     (runs .answer-is, (p .1, (runs .index-is, (runs .totals-is, (runs .out-is, demand)))))
 
-build-requires : tie.Need-build-requires
-build-requires c κs = search needs
+build-asked-requires : tie.Need-build-asked-requires
+build-asked-requires c κs = search needs
 
 descendants-requires : tie.Need-descendants-requires
 descendants-requires c κs = search needs
@@ -63,13 +63,13 @@ returns-2 c =
     let w = y .before .before .before .before .before .before in
     let a = w .before .args in
     let p = y .replay .ensures in
-    let b = m .build .ensures in
+    let b = m .build-asked .ensures in
     let l = d .descendants .ensures in
-    let runs = runs-moved _ _ (p .0) (a .options .code) (a .options .depth) _ (now (a .index)) (now (a .totals)) (a .question .rank) (a .question .lower) (a .question .upper) (now (a .out)) _ _ _ _
-    (replayed-runs _ (a .options .code) (a .options .depth) _ (now (a .index)) (now (a .totals)) (a .question .rank) (a .question .lower) (a .question .upper) (now (a .out)) (i .if1 .left) _ _ (toZ-ofZ (limits-fit (w .before) .0)) (toZ-ofZ (limits-fit (w .before) .1)) _ _ _ _ _ _
+    let runs = runs-moved _ _ (p .0) (a .options .asked) _ (now (a .index)) (now (a .totals)) (a .question .rank) (a .question .lower) (a .question .upper) (now (a .out)) _ _ _ _
+    (replayed-runs _ (a .options .asked) _ (now (a .index)) (now (a .totals)) (a .question .rank) (a .question .lower) (a .question .upper) (now (a .out)) (i .if1 .left) _ _ (toZ-ofZ (limits-fit (w .before) .0)) (toZ-ofZ (limits-fit (w .before) .1)) _ _ _ _ _ _
     (b .0) (b .1 .0) (b .1 .1) (l .0) (l .1) (c .subtree-sum .ensures)) in
     let demand =
-    replay-all-guaranteed (now (a .words)) (now (a .refusals)) (a .options .code) (a .options .depth) (a .options .start) (now (a .list)) (now (a .index)) (now (a .totals)) (a .question .rank) (a .question .lower) (a .question .upper) (now (a .out)) _ _ _ _ _
+    replay-all-guaranteed (now (a .words)) (now (a .refusals)) (a .options .asked) (a .options .start) (now (a .list)) (now (a .index)) (now (a .totals)) (a .question .rank) (a .question .lower) (a .question .upper) (now (a .out)) _ _ _ _ _
     runs (p .1) (λ k. w .shared-slice-known .given k .fits) in
     (runs .answer-is, (p .1, (runs .index-is, (runs .totals-is, (runs .out-is, demand)))))
 
@@ -81,7 +81,7 @@ replay-all-spec =
     not-replayed-requires
     same-length
     returns
-    build-requires
+    build-asked-requires
     descendants-requires
     subtree-sum-requires
     same-length-2
