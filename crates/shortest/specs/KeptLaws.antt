@@ -225,10 +225,6 @@ module _ (num par : ℕ → ℕ) (lt : ℕ → ℕ → Type 0) (asym : (x y : �
     back : (p : List ℕ) → p ∈ found f → p ∈ (found f ++ [])
     back p m = subst (λ l. p ∈ l) (sym (append-nil (found f))) m
 
-    -- found by length, then path order
-    pub found-rises : Increasing (Sooner lt) (found f)
-    found-rises = subst (Increasing (Sooner lt)) (append-nil (found f)) (ended .rising)
-
     -- each numeral once
     pub found-once : (p q : List ℕ) → p ∈ found f → q ∈ found f → num (last p) ≡ num (last q) → p ≡ q
     found-once p q m k e = one (found f) (subst (Increasing (Apart pathKey)) (append-nil (found f)) (ended .apart)) m k
