@@ -1,7 +1,7 @@
 // The builds of a board: its hierarchy index over all its paths, or over the shortest to each numeral, and the running totals.
 ghost use mathlib.Core.Path.{_≡_};
 ghost use lib.ListN.{length};
-ghost use Rattle.request.specs.Build.{startRule, builtOf, indexAfter, totalsAfter, defaultCode, defaultDepth, defaultStart};
+ghost use Rattle.request.specs.Build.{startRule, builtOf, indexAfter, totalsAfter, byDefault};
 ghost use Rattle.build.specs.AttemptedLayer.{CodeJudged, AskedJudged, AskedAttempted};
 ghost use Rattle.build.specs.Asked.{askedBuilt, askedIndex, askedTotals};
 ghost use Rattle.shortest.specs.Shortest.{shortestBuilt, shortestIndex, shortestTotals};
@@ -122,16 +122,19 @@ pub fn build(
     )
 }
 
-// The build by default: code 0, no depth, the rows with parent 0.
+// The option code of a build by default: orphans are roots, numerals may be shared, cycles are broken up.
+const DEFAULT_CODE: u32 = 3;
+
+// The build by default: code 3, no depth, the rows with parent 0. Every row ends a node of an accepted one.
 pub fn build_default(board: Board, index: &mut [u32], totals: &mut [i64]) -> Built
-    ensures { λ r. ⌜ r ≡ builtOf board defaultCode defaultDepth defaultStart (length (now (index .entry))) (length (now (totals .entry))) ⌝ }
-    ensures { λ _. ⌜ now (index .exit) ≡ indexAfter board defaultCode defaultDepth defaultStart (now (index .entry)) (length (now (totals .entry))) ⌝ }
-    ensures { λ _. ⌜ now (totals .exit) ≡ totalsAfter board defaultCode defaultDepth defaultStart (length (now (index .entry))) (now (totals .entry)) ⌝ }
+    ensures { λ r. ⌜ r ≡ byDefault (builtOf board) (length (now (index .entry))) (length (now (totals .entry))) ⌝ }
+    ensures { λ _. ⌜ now (index .exit) ≡ byDefault (indexAfter board) (now (index .entry)) (length (now (totals .entry))) ⌝ }
+    ensures { λ _. ⌜ now (totals .exit) ≡ byDefault (totalsAfter board) (length (now (index .entry))) (now (totals .entry)) ⌝ }
 {
     let unread = [0u32; 1];
     build(
         board,
-        0,
+        DEFAULT_CODE,
         Depth::None,
         Start::ParentZero,
         &unread,

@@ -6,7 +6,7 @@ ghost use Rattle.navigate.specs.Navigate.{descendantsAnswer, descendantsOut, si
 ghost use Rattle.navigate.specs.Climb.{ancestorsAnswer, ancestorsOut};
 ghost use Rattle.sums.specs.Sums.{subtreeAnswer, pathAnswer};
 ghost use Rattle.index_check.specs.IndexCheck.{accepts};
-ghost use Rattle.request.specs.Build.{startRule, builtOf, indexAfter, totalsAfter, defaultCode, defaultDepth, defaultStart};
+ghost use Rattle.request.specs.Build.{startRule, builtOf, indexAfter, totalsAfter, byDefault};
 ghost use Rattle.shortest.specs.Shortest.{shortestBuilt, shortestIndex, shortestTotals};
 ghost use Rattle.levels.specs.Levelled.{levelledBuilt, levelledIndex, levelledTotals};
 ghost use Rattle.history.specs.Encoding.{replayedOf, refusalsOf};
@@ -133,9 +133,9 @@ pub extern "C" fn flowpewter_build_default(
     index: &mut [u32],
     totals: &mut [i64],
 ) -> Built
-    ensures { λ r. ⌜ r ≡ builtOf board defaultCode defaultDepth defaultStart (length (now (index .entry))) (length (now (totals .entry))) ⌝ }
-    ensures { λ _. ⌜ now (index .exit) ≡ indexAfter board defaultCode defaultDepth defaultStart (now (index .entry)) (length (now (totals .entry))) ⌝ }
-    ensures { λ _. ⌜ now (totals .exit) ≡ totalsAfter board defaultCode defaultDepth defaultStart (length (now (index .entry))) (now (totals .entry)) ⌝ }
+    ensures { λ r. ⌜ r ≡ byDefault (builtOf board) (length (now (index .entry))) (length (now (totals .entry))) ⌝ }
+    ensures { λ _. ⌜ now (index .exit) ≡ byDefault (indexAfter board) (now (index .entry)) (length (now (totals .entry))) ⌝ }
+    ensures { λ _. ⌜ now (totals .exit) ≡ byDefault (totalsAfter board) (length (now (index .entry))) (now (totals .entry)) ⌝ }
 {
     build::build_default(board, index, totals)
 }

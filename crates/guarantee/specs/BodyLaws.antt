@@ -26,7 +26,7 @@ use Rattle.nodes.specs.ParentLaws.{Allowed, nodes-closed}
 use Rattle.nodes.specs.BoundLaws.{node-bounded}
 use Rattle.answers.specs.DescribedLaws.{Described, closed-described}
 use Rattle.guarantee.specs.Builds.{NodeList, BodyOf}
-use Rattle.guarantee.specs.Guarantee.{Closing, pathNodes}
+use Rattle.guarantee.specs.PathBuilds.{Closing, pathNodes}
 
 module _ (R : List Row) (starts : Row → Bool) (depth : Depth) (o : Orphan) where
   pub node-list : NodeList (pathNodes R starts depth o (entriesOf R starts depth o)) (nodes R starts depth o)

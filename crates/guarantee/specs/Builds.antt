@@ -1,9 +1,9 @@
 -- What a build answers and leaves, over any kind of nodes: which lists are nodes, in which order they stand and what a body says of each is a parameter (`NodeKind`), so that each kind of
 -- build gives its own and cites the same statement. In the words of paper 01's "Paths", "Index image" and "What demand 3 compares". Assumes nothing: these are definitions.
 use mathlib.Core.Path.{_≡_}
-use mathlib.Core.Logic.{_≢_, _↔_}
+use mathlib.Core.Logic.{_⊎_, _≢_, _↔_}
 use mathlib.Core.List.{List}
-use Prim.Native.Nat.{ℕ, _≤_, _<_}
+use Prim.Native.Nat.{ℕ, _+_, _*_, _≤_, _<_}
 use lib.Dec.{T}
 use lib.IntN.{ℤ, pos}
 use lib.ListN.{length, replicate}
@@ -71,6 +71,10 @@ module _ (kind : NodeKind) where
     pub left-rising : Increasing _<_ leftRows
     pub left-is : (x : ℕ) → (x ∈ leftRows) ↔ kind .Left x
     pub left-count : answer .left ≡ length leftRows
+
+-- sentence 9, of n nodes and slices of so many words and totals: "The nodes number over 65,535, or the index has fewer than 8 + 6n words, or the totals fewer than n + 1."
+abbrev pub NoRoom : ℕ → ℕ → ℕ → Type 0
+NoRoom words totals n = (65535 < n) ⊎ ((words < 8 + 6 * n) ⊎ (totals < n + 1))
 
 -- "a refused build zeroes both slices and its two counts"; so all navigation on them is refused 13
 pub record Refused (answer : Built) (before index : List ℕ) (unwritten totals : List ℤ) : Type 0 where

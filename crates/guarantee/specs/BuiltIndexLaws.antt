@@ -18,13 +18,8 @@ use Rattle.index_check.specs.IndexCheck.{accepts}
 use Rattle.answers.specs.Answers.{DistancesAtMostZero, LinksByLevel}
 use Rattle.request.specs.Build.{buildRefusal, builtOf, indexAfter}
 use Rattle.built.specs.OutcomeLayer.{Outcome, indexWhen}
-use Rattle.guarantee.specs.KindLaws.{Fitting, checked-here, levels-here, distances-here, when-none}
-use Rattle.guarantee.specs.GuaranteeLaws.{outcome, allowed, fitting, sound-few}
-
--- no refusal 1, and none after it
-sound-first : (t : Bool) (q : ℕ) → cond t q 1 ≡ 0 → (t ≡ true) × (q ≡ 0)
-sound-first true q e = (refl, e)
-sound-first false q e = absurd (omega arith)
+use Rattle.guarantee.specs.KindLaws.{sound-first, Fitting, checked-here, levels-here, distances-here, when-none}
+use Rattle.guarantee.specs.PathBuildLaws.{outcome, allowed, fitting, sound-few}
 
 module _ (b : Board) (code : ℕ) (depth : Depth) (starts : Row → Bool) (index : List ℕ) (totals : List ℤ) (accepted : builtOf b code depth starts (length index) (length totals) .refusal ≡ 0) where
   abbrev R : List Row

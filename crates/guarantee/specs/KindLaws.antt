@@ -29,6 +29,11 @@ use Rattle.answers.specs.NavigationLaws.{navigation-here, links-by-beginnings, 
 use Rattle.answers.specs.ZeroLaws.{zeros-refused}
 use Rattle.guarantee.specs.Builds.{NodeKind, NodeList, BodyOf, Accepted, Refused, Build}
 
+-- no refusal 1, and none after it
+pub sound-first : (t : Bool) (q : ℕ) → cond t q 1 ≡ 0 → (t ≡ true) × (q ≡ 0)
+sound-first true q e = (refl, e)
+sound-first false q e = absurd (omega arith)
+
 module _ (o : Outcome) where
   pub zeroed : (q : ℕ) (index : List ℕ) (totals : List ℤ) → Refused (answerWhen o q false) index (indexWhen o index false) totals (totalsWhen o totals false)
   zeroed q index totals = record { n = refl; left = refl; zero-index = refl; zero-totals = refl; navigation = zeros-refused (length index) (replicate (length totals) (pos 0)) }

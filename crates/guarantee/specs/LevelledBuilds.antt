@@ -14,7 +14,7 @@ use Rattle.built.specs.declared.Built.{Built}
 use Rattle.forest.specs.Nodes.{last, begins}
 use Rattle.levels.specs.Levelled.{isBlank, linesOf, sortedLines, longestShorter, shortestBeginning, placeFrom, blankLine, levelledBuilt, levelledIndex, levelledTotals}
 use Rattle.answers.specs.Answers.{First, noOther, DistancesAtMostZero, LinksByBeginnings}
-use Rattle.guarantee.specs.Builds.{NodeKind, Build}
+use Rattle.guarantee.specs.Builds.{NodeKind, NoRoom, Build}
 
 module _ (s : List ℕ) (width : ℕ) where
   -- "the place in the sorted order, from 1, of the first line that has it"
@@ -49,7 +49,7 @@ module _ (s : List ℕ) (width : ℕ) where
   LevelledRefusal words totals W =
       First ((width ≡ 0) ⊎ ((8 < width) ⊎ (length s % width ≢ 0))) 18
       (First (512 < length s / width) 19
-      (First ((65535 < length W) ⊎ ((words < 8 + 6 * length W) ⊎ (totals < length W + 1))) 9 noOther))
+      (First (NoRoom words totals (length W)) 9 noOther))
 
   pub record LevelledBuild (answer : Built) (before index : List ℕ) (unwritten totals : List ℤ) : Type 0 where
     pub build : Build levelledKind (LevelledRefusal (length before) (length unwritten)) (Unit {0}) answer before index unwritten totals

@@ -2,12 +2,16 @@ pub mod Builds
 pub mod KindLaws
 pub mod LevelledBuilds
 pub mod ShortestBuilds
+pub mod PathBuilds
+pub mod DefaultBuilds
 pub mod Guarantee
 pub mod BodyLaws
 pub mod SentenceLaws
 pub mod MinutesLaws
 pub mod LevelledBuildLaws
 pub mod ShortestBuildLaws
+pub mod PathBuildLaws
+pub mod DefaultBuildLaws
 pub mod GuaranteeLaws
 pub mod BuiltIndexLaws
 pub mod Marked

@@ -34,7 +34,7 @@ use Rattle.sums.specs.Sums.{beyond, subtreeAnswer}
 use Rattle.built.specs.declared.Built.{Built}
 use Rattle.request.specs.Build.{buildRefusal, builtOf, indexAfter, totalsAfter}
 use Rattle.built.specs.OutcomeLayer.{answerWhen, indexWhen, totalsWhen}
-use Rattle.guarantee.specs.GuaranteeLaws.{outcome}
+use Rattle.guarantee.specs.PathBuildLaws.{outcome}
 use Rattle.guarantee.specs.Marked.{lines, builtIndex, builtTotals, MarkedCases}
 
 -- ---- the same build over rows

@@ -16,7 +16,7 @@ use Rattle.rows.specs.declared.Call.the-variants.{Add, Withdraw, Remark, Undo, 
 use Rattle.rows.specs.Journal.{blank, noRow, remarked}
 use Rattle.machine.specs.Machine.{Machine, Answer, gives, changes, goesBack, goesForward, answer, after, start}
 use Rattle.machine.specs.Calls.{MinutesFit, AllFit}
-use Rattle.guarantee.specs.Guarantee.{RowsFit}
+use Rattle.guarantee.specs.PathBuilds.{RowsFit}
 
 abbrev ListsFit : List (List Row) → Type 0
 ListsFit L = (l : List Row) → l ∈ L → RowsFit l

@@ -28,8 +28,8 @@ use Rattle.nodes.specs.NodeLaws.{nodes-once}
 use Rattle.nodes.specs.BodyLaws.{bodies-length}
 use Rattle.nodes.specs.RefusalLaws.{some-top, some-island, no-start, some-unreached, shared-is}
 use Rattle.answers.specs.AnswerLaws.{first-step, less}
-use Rattle.guarantee.specs.Builds.{BodyOf, Shares}
-use Rattle.guarantee.specs.Guarantee.{Closing, pathNodes, BuildRefusal}
+use Rattle.guarantee.specs.Builds.{BodyOf, Shares, NoRoom}
+use Rattle.guarantee.specs.PathBuilds.{Closing, pathNodes, BuildRefusal}
 use Rattle.guarantee.specs.BodyLaws.{body-of}
 
 both : (a b : Bool) {A B : Type 0} → T a ↔ A → T b ↔ B → T (a && b) ↔ (A × B)
@@ -51,7 +51,7 @@ fails : (t : Bool) → T (not t) ↔ (t ≡ false)
 fails t = ((λ n. is-false t (T-not t n)), (λ e. subst (λ x. T (not x)) (sym e) tt))
 
 -- sentence 9
-pub ninth : (n words totals : ℕ) → T (refusal9 n words totals) ↔ ((65535 < n) ⊎ ((words < 8 + 6 * n) ⊎ (totals < n + 1)))
+pub ninth : (n words totals : ℕ) → T (refusal9 n words totals) ↔ NoRoom words totals n
 ninth n words totals =
     one-of (ltb 65535 n) (ltb words (8 + 6 * n) || ltb totals (n + 1)) (less 65535 n) (one-of (ltb words (8 + 6 * n)) (ltb totals (n + 1)) (less words (8 + 6 * n)) (less totals (n + 1)))
 
@@ -158,7 +158,7 @@ module _ (R : List Row) (code : ℕ) (depth : Depth) (start : Row → Bool) (wor
       first-step (refusal6 code) (less 23 code) 6 _
       (first-step (refusal7 c depth) (both (given depth) (not (eqb c 0)) ((λ t. t), (λ t. t)) (unequal c 0)) 7 _
       (first-step (refusal8 c (tops R start depth) (islands R start) (starts R start)) eighth 8 _
-      (first-step (refusal9 (length bs) words totals) (subst (λ n. T (refusal9 (length bs) words totals) ↔ ((65535 < n) ⊎ ((words < 8 + 6 * n) ⊎ (totals < n + 1)))) (bodies-length R start depth o) (ninth (length bs) words totals)) 9 _
+      (first-step (refusal9 (length bs) words totals) (subst (λ n. T (refusal9 (length bs) words totals) ↔ NoRoom words totals n) (bodies-length R start depth o) (ninth (length bs) words totals)) 9 _
       (first-step (refusal10 (cycleOf code) bs) (both (eqb (cycleOf code) 1) (any (λ (b : Body). b .closing) bs) (equal (cycleOf code) 1) (some-body R start depth o (λ (b : Body). b .closing) (Closing R start depth o (entriesOf R start depth o)) (closing-at R start depth o))) 10 _
       (first-step (refusal11 (multiOf code) bs) eleventh 11 _
       (first-step (refusal12 c (orphanRows R start depth)) twelfth 12 0 refl))))))

@@ -24,7 +24,7 @@ use Rattle.request.specs.declared.Start.{Start}
 use Rattle.request.specs.Build.{startRule}
 use Rattle.built.specs.declared.Built.{Built}
 use Rattle.answers.specs.Answers.{First, noOther, DistancesAtMostZero, LinksByLevel}
-use Rattle.guarantee.specs.Builds.{NodeKind, Refused, Build}
+use Rattle.guarantee.specs.Builds.{NodeKind, NoRoom, Refused, Build}
 
 module _ (R : List Row) (starts : Row → Bool) where
   abbrev pub keptNodes : NodeKind
@@ -52,7 +52,7 @@ module _ (R : List Row) (starts : Row → Bool) where
 
   -- sentence 9, over the list W of the kept paths; sentence 1 never applies
   abbrev pub ShortestRefusal : ℕ → ℕ → List (List ℕ) → ℕ → Type 0
-  ShortestRefusal words totals W = First ((65535 < length W) ⊎ ((words < 8 + 6 * length W) ⊎ (totals < length W + 1))) 9 noOther
+  ShortestRefusal words totals W = First (NoRoom words totals (length W)) 9 noOther
 
   pub record ShortestBuild (fits : Type 0) (answer : Built) (before index : List ℕ) (unwritten totals : List ℤ) : Type 0 where
     pub build : Build keptNodes (ShortestRefusal (length before) (length unwritten)) fits answer before index unwritten totals

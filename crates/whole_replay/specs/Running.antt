@@ -26,7 +26,7 @@ use Rattle.answers.specs.Answers.{Descendants, SubtreeSum}
 use Rattle.islands.specs.Islands.{joined}
 use Rattle.nodes.specs.Bodies.{minutesOf}
 use Rattle.guarantee.specs.ShortestBuilds.{ShortestBuild}
-use Rattle.guarantee.specs.Guarantee.{PathBuild}
+use Rattle.guarantee.specs.PathBuilds.{PathBuild}
 
 -- nothing was built or asked: each part of the answer bears the replay's number
 abbrev pub notReplayed : ℕ → ReplayedAll
