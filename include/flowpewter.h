@@ -4,11 +4,12 @@
  * down, each under the numeral of the row before; it is a node of its last row. So a part that is shown in three places
  * is three nodes, each with all that is below it. A build writes the nodes into an index, in the order of their ranks,
  * which begin at 1: a node comes before the nodes below it, and siblings by their order, then by their numeral, then by
- * their row number, the smaller first. Rows that no path from a start row reaches are orphans: they are left over, or
- * have paths of their own (FLOWPEWTER_ORPHAN_ADOPT, FLOWPEWTER_ORPHAN_ROOT). For a list of numerals, another build has
- * each numeral once, where it is closest to a start row (flowpewter_build_shortest). An index is also built from a
- * levelled list, whose columns are levels, as large makers send it (flowpewter_build_levelled). The other calls look
- * into an index by rank. docs/INDEX-FORMAT.md has examples, word by word.
+ * their row number, the smaller first. Rows that no path from a start row reaches are orphans, as a part is whose
+ * parent isn't drawn yet: by default they have paths of their own behind all others (flowpewter_build_default), and an
+ * option code has them adopted, left over or refused (flowpewter_build). For a list of numerals, another build has each
+ * numeral once, where it is closest to a start row (flowpewter_build_shortest). An index is also built from a levelled
+ * list, whose columns are levels, as large makers send it (flowpewter_build_levelled). The other calls look into an
+ * index by rank. docs/INDEX-FORMAT.md has examples, word by word.
  *
  * Link with target/staticlib/libflowpewter.a, which `rt staticlib flowpewter` makes. It is compiled for x86-64 Linux
  * (System V calls, any x86-64 processor, position-independent) and for nothing else; of the C library it takes memcpy,
@@ -194,7 +195,7 @@ typedef struct flowpewter_replayed {
  * of it stays. 101, 102, 103. */
 flowpewter_replayed flowpewter_replay(const uint32_t *words, size_t words_len, uint32_t *refusals, size_t refusals_len);
 
-/* ---- builds; refusals 1 and 6 to 12, of the shortest placement 1 and 9, of levelled lists 18, 19 and 9 */
+/* ---- builds; refusals 1 and 6 to 12, by default and of the shortest placement 1 and 9, of levelled lists 18, 19, 9 */
 
 /* The index: a table of contents, then a body for each node, in the order of their ranks. */
 enum {
@@ -277,7 +278,13 @@ flowpewter_built flowpewter_build(flowpewter_board board, uint32_t code, bool ha
                                   const uint32_t *list, size_t list_len, uint32_t *index, size_t index_len,
                                   int64_t *totals, size_t totals_len);
 
-/* The same with code 0, no depth, paths starting from rows with parent 0. */
+/* The option code of a build by default, 3: orphans are roots, numerals may be shared, cycles are broken up. */
+#define FLOWPEWTER_DEFAULT_CODE                                                                                        \
+    FLOWPEWTER_CODE(FLOWPEWTER_ORPHAN_ROOT, FLOWPEWTER_MULTI_ALLOW, FLOWPEWTER_CYCLE_BREAK_UP)
+
+/* The same with FLOWPEWTER_DEFAULT_CODE, no depth, paths starting from rows with parent 0. Every row ends a node, also
+ * one whose parent isn't among the rows: none is left over. Who wants only what hangs from start rows, or a depth,
+ * calls flowpewter_build with FLOWPEWTER_ORPHAN_IGNORE, code 0. 1, 9. */
 flowpewter_built flowpewter_build_default(flowpewter_board board, uint32_t *index, size_t index_len, int64_t *totals,
                                           size_t totals_len);
 

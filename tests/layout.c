@@ -111,6 +111,7 @@ static void codes(void) {
             }
         }
     }
+    printf("default %u\n", (unsigned)FLOWPEWTER_DEFAULT_CODE);
 }
 
 static void words(void) {

@@ -1,5 +1,5 @@
-/* How many drawing minutes hang under numeral 40? A pump whose valve, numeral 40, is shown in three places. Then the
- * numeral list beside figure 1, in which it stands once. */
+/* How many drawing minutes hang under numeral 40? A pump whose valve, numeral 40, is shown in three places, and a
+ * gasket whose parent isn't drawn yet. Then the numeral list beside figure 1, in which each numeral stands once. */
 #include "flowpewter.h"
 #include <inttypes.h>
 #include <stdio.h>
@@ -17,6 +17,7 @@ static const flowpewter_row pump[] = {
     {40, 41, 1, 8},  /* spring */
     {40, 42, 2, 6},  /* seat */
     {42, 43, 1, -2}, /* seal, taken over from an older drawing */
+    {50, 51, 1, 20}, /* gasket of the flange, numeral 50, which isn't drawn yet */
 };
 
 static int refused(uint32_t refusal) {
@@ -59,6 +60,24 @@ int main(void) {
         }
     }
     printf("%" PRId64 " drawing minutes hang under numeral 40\n", minutes);
+
+    /* By default no part is lost sight of: what hangs from nothing drawn is a root, and marked. */
+    for (uint32_t rank = 1; rank <= built.nodes; rank++) {
+        const uint32_t *body = index + FLOWPEWTER_BODY_AT(rank);
+        if (body[FLOWPEWTER_BODY_PARENT] == 0 && (body[FLOWPEWTER_BODY_LEVEL] & FLOWPEWTER_ORPHAN_BIT) != 0) {
+            printf("numeral %" PRIu32 " at rank %" PRIu32 ": its parent isn't drawn yet\n",
+                   body[FLOWPEWTER_BODY_NUMERAL], rank);
+        }
+    }
+
+    /* What hangs from the pump alone: orphans are ignored, and counted. */
+    const uint32_t attached =
+        FLOWPEWTER_CODE(FLOWPEWTER_ORPHAN_IGNORE, FLOWPEWTER_MULTI_ALLOW, FLOWPEWTER_CYCLE_BREAK_UP);
+    built = flowpewter_build(board, attached, false, 0, false, NULL, 0, index, index_len, totals, totals_len);
+    if (built.refusal != 0) {
+        return refused(built.refusal);
+    }
+    printf("without it: %" PRIu32 " nodes, %" PRIu32 " row left over\n", built.nodes, built.left);
 
     /* Each numeral as close to the pump as it can stand: the valve beside it, with spring, seat and seal. */
     built = flowpewter_build_shortest(board, false, NULL, 0, index, index_len, totals, totals_len);

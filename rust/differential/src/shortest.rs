@@ -6,7 +6,9 @@ use crate::{baseline, navigation};
 use flowpewter::sys;
 use generate::builds::start_of;
 use generate::shortest::{self, full_case, shortest_case, shortest_case_of, NETS};
-use generate::{history, holding, unsound_boards, History, Random, ShortestCase};
+use generate::{
+    bare_board, history, holding, small_boards, unsound_boards, History, Random, ShortestCase,
+};
 use reference::{build_shortest_board, Body, Built, Row};
 use std::collections::HashSet;
 
@@ -110,24 +112,16 @@ pub fn unsound(random: &mut Random, tally: &mut Tally) {
     }
 }
 
-/// Every board of up to `most` rows with parents of 0 to 3, numerals of 1 to 3 and orders below `orders`, by parent 0 and
-/// by lists of one and of two numerals.
+/// Every small board, by parent 0 and by lists of one and of two numerals.
 pub fn small(most: u32, orders: u32, tally: &mut Tally) {
-    let kinds = 4 * 3 * orders;
-    let row = |kind: u32| Row::new(kind % 4, kind / 4 % 3 + 1, kind / 12, 1 << kind);
-    for count in 0..=most {
-        for number in 0..kinds.pow(count) {
-            let rows: Vec<Row> =
-                (0..count).map(|place| row(number / kinds.pow(place) % kinds)).collect();
-            let mut reference = reference::Board { count: rows.len(), ..reference::Board::EMPTY };
-            reference.rows[..rows.len()].copy_from_slice(&rows);
-            for start in [None, Some(vec![2]), Some(vec![3, 1])] {
-                let n = shortest::reached(&rows, start_of(&start));
-                let (index, totals) = (vec![7; 8 + 6 * n + 1], vec![7; n + 2]);
-                let case = ShortestCase { rows: rows.clone(), start, index, totals };
-                let (_, after) = compare(&reference, &case, tally);
-                assert!(sys::index_check(&after.index), "{after:?}");
-            }
+    for rows in small_boards(most, orders) {
+        let reference = bare_board(&rows);
+        for start in [None, Some(vec![2]), Some(vec![3, 1])] {
+            let n = shortest::reached(&rows, start_of(&start));
+            let (index, totals) = (vec![7; 8 + 6 * n + 1], vec![7; n + 2]);
+            let case = ShortestCase { rows: rows.clone(), start, index, totals };
+            let (_, after) = compare(&reference, &case, tally);
+            assert!(sys::index_check(&after.index), "{after:?}");
         }
     }
 }

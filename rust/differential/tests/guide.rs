@@ -1,6 +1,6 @@
 //! The guide's examples through the library.
 
-use flowpewter::{build_levelled, build_shortest, build_with_code, Board, Refusal};
+use flowpewter::{build, build_levelled, build_shortest, build_with_code, Board, Options, Refusal};
 use guide::{Engine, Image};
 use reference::{Row, Start};
 
@@ -50,6 +50,16 @@ impl Engine for Library {
         let mut index = vec![0; flowpewter::index_len(NODES)];
         let mut totals = vec![0; flowpewter::totals_len(NODES)];
         let built = build_shortest(&board, start, &mut index, &mut totals).map_err(number)?;
+        assert_eq!(built.nodes, index[0]);
+        Ok(Image { index, totals, left: built.left })
+    }
+
+    fn build_default(&self, rows: &[Row]) -> Result<Image, u32> {
+        let board = holding(rows)?;
+        let mut index = vec![0; flowpewter::index_len(NODES)];
+        let mut totals = vec![0; flowpewter::totals_len(NODES)];
+        let options = Options::default();
+        let built = build(&board, &options, &mut index, &mut totals).map_err(number)?;
         assert_eq!(built.nodes, index[0]);
         Ok(Image { index, totals, left: built.left })
     }

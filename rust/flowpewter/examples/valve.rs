@@ -1,14 +1,14 @@
-//! How many drawing minutes hang under numeral 40? A pump whose valve, numeral 40, is shown in three places. Then the
-//! numeral list beside figure 1, in which it stands once.
+//! How many drawing minutes hang under numeral 40? A pump whose valve, numeral 40, is shown in three places, and a
+//! gasket whose parent isn't drawn yet. Then the numeral list beside figure 1, in which each numeral stands once.
 #![forbid(unsafe_code)]
 
 use flowpewter::{
     bodies, build, build_shortest, index_len, span, subtree_sum, totals_len, Board, Options,
-    Refusal, Row, Start,
+    Orphan, Refusal, Row, Start, BODY, CONTENTS,
 };
 
 /// Parent, numeral, order on the sheet, drawing minutes.
-const PUMP: [Row; 9] = [
+const PUMP: [Row; 10] = [
     Row::new(0, 10, 1, 90),  // pump
     Row::new(10, 20, 1, 45), // housing
     Row::new(10, 30, 2, 60), // cover
@@ -18,6 +18,7 @@ const PUMP: [Row; 9] = [
     Row::new(40, 41, 1, 8),  // spring
     Row::new(40, 42, 2, 6),  // seat
     Row::new(42, 43, 1, -2), // seal, taken over from an older drawing
+    Row::new(50, 51, 1, 20), // gasket of the flange, numeral 50, which isn't drawn yet
 ];
 
 fn main() -> Result<(), Refusal> {
@@ -31,9 +32,9 @@ fn main() -> Result<(), Refusal> {
     let built = build(&board, &Options::default(), &mut index, &mut totals)?;
     println!("{} nodes, {} rows left over", built.nodes, built.left);
 
-    // The pump is the only root, so that its span is the whole forest.
     let mut minutes = 0;
-    for (rank, body) in (1..).zip(bodies(span(&index, 1)?)) {
+    let nodes = &index[CONTENTS..][..BODY * built.nodes as usize];
+    for (rank, body) in (1..).zip(bodies(nodes)) {
         if body.numeral == 40 {
             let sum = subtree_sum(&index, &totals, rank)?;
             println!("numeral 40 at rank {rank}, level {}: {sum} minutes", body.level);
@@ -41,6 +42,18 @@ fn main() -> Result<(), Refusal> {
         }
     }
     println!("{minutes} drawing minutes hang under numeral 40");
+
+    // By default no part is lost sight of: what hangs from nothing drawn is a root, and marked.
+    for (rank, body) in (1..).zip(bodies(nodes)) {
+        if body.parent == 0 && body.orphan {
+            println!("numeral {} at rank {rank}: its parent isn't drawn yet", body.numeral);
+        }
+    }
+
+    // What hangs from the pump alone: orphans are ignored, and counted.
+    let attached = Options { orphan: Orphan::Ignore, ..Options::default() };
+    let built = build(&board, &attached, &mut index, &mut totals)?;
+    println!("without it: {} nodes, {} row left over", built.nodes, built.left);
 
     // Each numeral as close to the pump as it can stand: the valve beside it, with spring, seat and seal.
     let built = build_shortest(&board, Start::ParentZero, &mut index, &mut totals)?;

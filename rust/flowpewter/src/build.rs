@@ -13,8 +13,7 @@ use crate::sys;
 /// the rows that are left, and what is below it; then the next, until no row is left.
 #[derive(Clone, Copy, Debug, PartialEq, Eq, Hash, Default)]
 pub enum Orphan {
-    /// They are left over.
-    #[default]
+    /// They are left over. The only choice that takes a [depth](Options::depth).
     Ignore = 0,
     /// The build is refused.
     Error = 1,
@@ -23,6 +22,7 @@ pub enum Orphan {
     Adopt = 2,
     /// Those without a parent among the rows are roots after all others, and what is below them follows; then entries of
     /// islands are.
+    #[default]
     Root = 3,
 }
 
@@ -68,14 +68,16 @@ impl<'a> Start<'a> {
     }
 }
 
-/// How to build. The default ignores orphans, allows shared numerals, breaks up cycles, has no depth and starts from
-/// rows with parent 0.
+/// How to build. By default orphans are roots, numerals may be shared and cycles are broken up (option code 3), there
+/// is no depth, and paths start from rows with parent 0. Then every row ends a node, and a build of a sound board is
+/// refused only with [`Refusal::TooManyNodes`].
 #[derive(Clone, Copy, Debug, PartialEq, Eq, Hash, Default)]
 pub struct Options<'a> {
     pub orphan: Orphan,
     pub multi: Multi,
     pub cycle: Cycle,
-    /// With depth d a path has at most d + 1 rows; a negative d gives no path.
+    /// With depth d a path has at most d + 1 rows; a negative d gives no path. Only with [`Orphan::Ignore`]: else the
+    /// build is refused with [`Refusal::DepthWithOrphans`].
     pub depth: Option<i32>,
     pub start: Start<'a>,
 }
@@ -86,8 +88,9 @@ impl Options<'_> {
     /// ```
     /// use flowpewter::{Cycle, Options, Orphan};
     ///
-    /// let options = Options { orphan: Orphan::Root, cycle: Cycle::Error, ..Options::default() };
-    /// assert_eq!(options.code(), 15);
+    /// let options = Options { orphan: Orphan::Adopt, cycle: Cycle::Error, ..Options::default() };
+    /// assert_eq!(options.code(), 14);
+    /// assert_eq!(Options::default().code(), 3);
     /// ```
     pub fn code(&self) -> u32 {
         self.orphan as u32 + 4 * self.multi as u32 + 12 * self.cycle as u32
@@ -126,6 +129,39 @@ pub struct Built {
 /// # Ok::<(), Refusal>(())
 /// ```
 ///
+/// A gasket whose flange, numeral 50, isn't drawn yet is a root of its own by default. Where only what hangs from start
+/// rows is wanted, or a depth, the options say so:
+///
+/// ```
+/// use flowpewter::{
+///     bodies, build, index_len, span, totals_len, Board, Built, Options, Orphan, Refusal, Row,
+/// };
+///
+/// let mut board = Board::EMPTY;
+/// board.add(Row::new(0, 10, 1, 90))?;
+/// board.add(Row::new(10, 20, 1, 45))?;
+/// board.add(Row::new(50, 51, 1, 20))?;
+/// let mut index = [0; index_len(3)];
+/// let mut totals = [0; totals_len(3)];
+/// let built = build(&board, &Options::default(), &mut index, &mut totals)?;
+/// assert_eq!(built, Built { nodes: 3, left: 0 });
+/// let gasket = bodies(span(&index, 3)?).next().unwrap();
+/// assert_eq!((gasket.numeral, gasket.parent, gasket.orphan), (51, 0, true));
+///
+/// let attached = Options { orphan: Orphan::Ignore, ..Options::default() };
+/// let built = build(&board, &attached, &mut index, &mut totals)?;
+/// assert_eq!(built, Built { nodes: 2, left: 1 });
+///
+/// let shallow = Options { depth: Some(0), ..attached };
+/// let built = build(&board, &shallow, &mut index, &mut totals)?;
+/// assert_eq!(built, Built { nodes: 1, left: 2 });
+///
+/// let refused = Options { depth: Some(0), ..Options::default() };
+/// let refused = build(&board, &refused, &mut index, &mut totals);
+/// assert_eq!(refused, Err(Refusal::DepthWithOrphans));
+/// # Ok::<(), Refusal>(())
+/// ```
+///
 /// A gear train that was entered as a ring, with no way in, gets an entry when orphans are roots:
 ///
 /// ```
@@ -139,8 +175,7 @@ pub struct Built {
 /// board.add(Row::new(20, 30, 1, 11))?;
 /// let mut index = [0; index_len(4)];
 /// let mut totals = [0; totals_len(4)];
-/// let options = Options { orphan: Orphan::Root, ..Options::default() };
-/// let built = build(&board, &options, &mut index, &mut totals)?;
+/// let built = build(&board, &Options::default(), &mut index, &mut totals)?;
 /// assert_eq!(built, Built { nodes: 4, left: 0 });
 ///
 /// let nodes: Vec<_> =
@@ -148,8 +183,9 @@ pub struct Built {
 /// assert_eq!(nodes, [(10, 0, false), (20, 2, false), (30, 3, false), (10, 1, true)]);
 /// assert_eq!(subtree_sum(&index, &totals, 1)?, 23);
 ///
-/// // By default orphans are ignored.
-/// let built = build(&board, &Options::default(), &mut index, &mut totals)?;
+/// // No row of it hangs from a start row.
+/// let attached = Options { orphan: Orphan::Ignore, ..Options::default() };
+/// let built = build(&board, &attached, &mut index, &mut totals)?;
 /// assert_eq!(built, Built { nodes: 0, left: 3 });
 /// # Ok::<(), Refusal>(())
 /// ```

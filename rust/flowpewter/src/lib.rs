@@ -1,7 +1,8 @@
 //! Parts lists with undo and redo, their forest of paths as an index, navigation and sums.
 //!
 //! * [`Board`]: rows with a parent, a numeral, an order and minutes; add, withdraw, remark, undo and redo.
-//! * [`build`]: the forest of a board's paths as an index, and running totals of the minutes.
+//! * [`build`]: the forest of a board's paths as an index, and running totals of the minutes; by default no row is left
+//!   out of it.
 //! * [`build_shortest`]: each numeral of a board once, as close to a start row as it can stand, as such an index.
 //! * [`build_levelled`]: the forest of a levelled list, whose columns are levels, as such an index.
 //! * [`span`], [`descendants`], [`ancestors`], [`siblings`]: navigation by rank.

@@ -63,6 +63,25 @@ pub fn holding(random: &mut Random, rows: &[Row]) -> Board {
     board
 }
 
+/// The board that holds `rows`, at most 1,024, and nothing else.
+pub fn bare_board(rows: &[Row]) -> Board {
+    let mut board = Board { count: rows.len(), ..Board::EMPTY };
+    board.rows[..rows.len()].copy_from_slice(rows);
+    board
+}
+
+/// Every list of up to `most` rows with parents of 0 to 3, numerals of 1 to 3 and
+/// orders below `orders`.
+pub fn small_boards(most: u32, orders: u32) -> impl Iterator<Item = Vec<Row>> {
+    let kinds = 4 * 3 * orders;
+    let row = |kind: u32| Row::new(kind % 4, kind / 4 % 3 + 1, kind / 12, 1 << kind);
+    (0..=most).flat_map(move |count| {
+        let nth =
+            move |number| (0..count).map(|place| row(number / kinds.pow(place) % kinds)).collect();
+        (0..kinds.pow(count)).map(nth)
+    })
+}
+
 /// A board of the given numbers, at most 1,024, 256 and 256, whose every entry
 /// can be carried out in its turn, so that its journal gives a K and an F of
 /// that many lists. The words beyond are noise.

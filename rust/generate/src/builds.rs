@@ -428,6 +428,19 @@ pub fn build_case_of(random: &mut Random, rows: Vec<Row>) -> BuildCase {
     with_slices(random, rows, options, start)
 }
 
+/// A random build by default of random rows.
+pub fn default_case(random: &mut Random) -> BuildCase {
+    let shape = random.pick(&SHAPES);
+    let size = size(random);
+    let rows = rows(random, shape, size);
+    default_case_of(random, rows)
+}
+
+/// A random build of the rows by default: code 3, no depth, parent 0.
+pub fn default_case_of(random: &mut Random, rows: Vec<Row>) -> BuildCase {
+    with_slices(random, rows, (3, None), None)
+}
+
 /// The build with random slices. Those of more than 3,000 nodes get slices that
 /// are too short; `builds::large_case` makes the ones at the node limit.
 fn with_slices(

@@ -24,9 +24,10 @@ mod rings;
 pub mod shortest;
 pub mod ties;
 
-pub use boards::{holding, sound_boards, stepped_board, unsound_boards};
+pub use boards::{bare_board, holding, small_boards, sound_boards, stepped_board, unsound_boards};
 pub use builds::{
-    build_case, build_case_of, island_case, island_case_of, rows, BuildCase, Shape, SHAPES,
+    build_case, build_case_of, default_case, default_case_of, island_case, island_case_of, rows,
+    BuildCase, Shape, SHAPES,
 };
 pub use histories::{history, history_on, History, HISTORIES};
 pub use indexes::{index, navigation_case, totals, NavigationCase};

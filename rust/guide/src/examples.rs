@@ -14,12 +14,12 @@ const ANY: (i32, i32) = (i32::MIN, i32::MAX);
 
 /// H_DEMO of section 5.1.
 fn h_demo(engine: &dyn Engine) -> View<'_> {
-    View::default(engine, t_demo())
+    View::by_code(engine, t_demo(), code(0, 0, 0))
 }
 
 /// H_DEMO_ERR of section 5.1.
 fn h_demo_err(engine: &dyn Engine) -> View<'_> {
-    View::default(engine, t_demo_err(&[0, 1, 2, 3]))
+    View::by_code(engine, t_demo_err(&[0, 1, 2, 3]), code(0, 0, 0))
 }
 
 /// Sorts result rows by node id.
@@ -58,7 +58,7 @@ pub fn s3_1_all_attributes(engine: &dyn Engine) {
 
 /// DEPTH 2, level above 1, ordered by node id.
 pub fn s3_1_depth_2(engine: &dyn Engine) {
-    let view = View::new(engine, t_demo(), 0, Some(2), Start::ParentZero);
+    let view = View::new(engine, t_demo(), code(0, 0, 0), Some(2), Start::ParentZero);
     let mut picks = by_node_id(&view, view.all());
     picks.retain(|pick| view.image.body(pick.rank).level > 1);
     view.check(
@@ -135,7 +135,7 @@ pub fn s3_1_orphaned_cycle(engine: &dyn Engine) {
     let place = moved.iter().position(|row| row.numeral == numeral("G3")).expect("a row of G3");
     moved[..=place].rotate_right(1);
 
-    let view = View::new(engine, rows.clone(), code(3, 0, 0), None, Start::ParentZero);
+    let view = View::by_code(engine, rows.clone(), code(3, 0, 0));
     orphaned_cycle_by_the_sentences(&view, false);
     view.check(
         &view.all()[12..],
@@ -148,7 +148,7 @@ pub fn s3_1_orphaned_cycle(engine: &dyn Engine) {
          18 2 16 3 15 0 1 G3 H2
          19 1 18 4 15 1 1 H2 F5",
     );
-    let view = View::new(engine, moved, code(2, 0, 0), None, Start::ParentZero);
+    let view = View::by_code(engine, moved, code(2, 0, 0));
     orphaned_cycle_by_the_sentences(&view, true);
     view.check(
         &view.all()[12..],
@@ -163,7 +163,7 @@ pub fn s3_1_orphaned_cycle(engine: &dyn Engine) {
     );
 
     // "Orphans are silently ignored"; "If the input data contains any orphans, an error is raised."
-    let view = View::default(engine, rows.clone());
+    let view = View::by_code(engine, rows.clone(), code(0, 0, 0));
     assert_eq!((view.image.nodes(), view.image.left), (13, 5));
     let built = engine.build(&rows, code(1, 0, 0), None, Start::ParentZero);
     assert_eq!(built.err(), Some(12));
@@ -225,7 +225,7 @@ pub fn s3_1_reversed_source(engine: &dyn Engine) {
         .iter()
         .map(|row| Row { parent: if row.parent == start { 0 } else { row.parent }, ..*row })
         .collect();
-    let mut view = View::new(engine, rows, code(0, 0, 0), None, Start::ParentZero);
+    let mut view = View::by_code(engine, rows, code(0, 0, 0));
     view.rows = reversed;
     view.check(
         &view.all(),
@@ -244,7 +244,7 @@ pub fn s3_1_multiparent_error(engine: &dyn Engine) {
 
 /// MULTIPARENT LEAVES on tree 1.
 pub fn s3_1_multiparent_leaves(engine: &dyn Engine) {
-    let view = View::new(engine, t_demo_err(&[1]), code(0, 1, 0), None, Start::ParentZero);
+    let view = View::by_code(engine, t_demo_err(&[1]), code(0, 1, 0));
     view.check(
         &view.all(),
         "HIERARCHY_RANK NODE_ID
@@ -264,7 +264,7 @@ pub fn s3_1_multiparent_leaves_error(engine: &dyn Engine) {
 
 /// MULTIPARENT on trees 1 and 2.
 pub fn s3_1_multiparent(engine: &dyn Engine) {
-    let view = View::new(engine, t_demo_err(&[1, 2]), code(0, 0, 0), None, Start::ParentZero);
+    let view = View::by_code(engine, t_demo_err(&[1, 2]), code(0, 0, 0));
     view.check(
         &view.all(),
         "HIERARCHY_RANK NODE_ID
@@ -291,7 +291,7 @@ pub fn s3_1_cycle_error(engine: &dyn Engine) {
 
 /// CYCLE BREAKUP on tree 3.
 pub fn s3_1_cycle_breakup(engine: &dyn Engine) {
-    let view = View::new(engine, t_demo_err(&[3]), code(0, 0, 0), None, Start::ParentZero);
+    let view = View::by_code(engine, t_demo_err(&[3]), code(0, 0, 0));
     view.check(
         &view.all(),
         "HIERARCHY_RANK HIERARCHY_IS_CYCLE NODE_ID
@@ -362,7 +362,7 @@ pub fn s3_2_well_formed_tree(engine: &dyn Engine) {
     let b2 = [numeral("B2")];
     for start in [Start::ParentZero, Start::Numerals(&b2)] {
         let tree = View::shortest(engine, t_demo(), start).image;
-        let hierarchy = View::new(engine, t_demo(), 0, None, start).image;
+        let hierarchy = View::new(engine, t_demo(), code(0, 0, 0), None, start).image;
         assert_eq!(tree.bodies(), hierarchy.bodies());
         let totals = ..=tree.nodes() as usize;
         assert_eq!(tree.totals[totals], hierarchy.totals[totals]);
@@ -672,8 +672,8 @@ fn decimal(hundredths: i64) -> String {
 fn measures(engine: &dyn Engine) -> [View<'_>; 3] {
     [
         h_demo(engine),
-        View::default(engine, tables::t_demo_facts(|facts| facts.iter().sum())),
-        View::default(engine, tables::t_demo_facts(|facts| facts.len() as i32)),
+        View::by_code(engine, tables::t_demo_facts(|facts| facts.iter().sum()), code(0, 0, 0)),
+        View::by_code(engine, tables::t_demo_facts(|facts| facts.len() as i32), code(0, 0, 0)),
     ]
 }
 
@@ -1034,7 +1034,7 @@ pub fn s8_1_path_by_two_hierarchies(engine: &dyn Engine) {
         .into_iter()
         .map(|rank| Row::new(view.image.body(rank).parent, rank, 0, 0))
         .collect();
-    let second = View::default(engine, unordered(rows));
+    let second = View::by_code(engine, unordered(rows), code(0, 0, 0));
     let mut found: Vec<String> = second
         .ranks()
         .into_iter()
@@ -1106,7 +1106,7 @@ pub fn s8_1_following_node(engine: &dyn Engine) {
 /// Tree 1 from E1 and tree 2 from F3.
 pub fn s8_2_parametrized(engine: &dyn Engine) {
     let start = [numeral("E1")];
-    let view = View::new(engine, t_demo_err(&[1]), 0, None, Start::Numerals(&start));
+    let view = View::new(engine, t_demo_err(&[1]), code(0, 0, 0), None, Start::Numerals(&start));
     view.check(
         &view.all(),
         "HIERARCHY_RANK HIERARCHY_LEVEL PARENT_ID NODE_ID
@@ -1117,7 +1117,7 @@ pub fn s8_2_parametrized(engine: &dyn Engine) {
          5 3 F2 G1",
     );
     let start = [numeral("F3")];
-    let view = View::new(engine, t_demo_err(&[2]), 0, None, Start::Numerals(&start));
+    let view = View::new(engine, t_demo_err(&[2]), code(0, 0, 0), None, Start::Numerals(&start));
     view.check(
         &view.all(),
         "HIERARCHY_RANK HIERARCHY_LEVEL PARENT_ID NODE_ID
@@ -1200,7 +1200,7 @@ pub fn s8_4_limited_query(engine: &dyn Engine) {
 
 /// Sum of a partial tree of the complete hierarchy, no order of siblings.
 pub fn s8_4_partial_tree(engine: &dyn Engine) {
-    let view = View::default(engine, unordered(t_demo()));
+    let view = View::by_code(engine, unordered(t_demo()), code(0, 0, 0));
     assert_eq!(view.subtree_sum(view.rank_of("B2")), 13);
 }
 
@@ -1239,7 +1239,7 @@ pub fn s8_5_number_of_roots(engine: &dyn Engine) {
 /// The orphaned top level nodes of T_DEMO_ERR, by ORPHAN ROOT.
 pub fn s8_5_top_level_orphans(engine: &dyn Engine) {
     let rows = t_demo_err(&[0, 1, 2, 3]);
-    let view = View::new(engine, rows, code(3, 0, 0), None, Start::ParentZero);
+    let view = View::by_code(engine, rows, code(3, 0, 0));
     let mut picks = view.all();
     picks.retain(|pick| {
         let body = view.image.body(pick.rank);
@@ -1253,7 +1253,8 @@ pub fn s8_5_top_level_orphans(engine: &dyn Engine) {
 /// Joined identifiers, start from the rows below X1.
 pub fn s8_6_composite_identifiers(engine: &dyn Engine) {
     let start = [numeral("Y1"), numeral("Y2")];
-    let view = View::new(engine, tables::t_demo_composite(), 0, None, Start::Numerals(&start));
+    let view =
+        View::new(engine, tables::t_demo_composite(), code(0, 0, 0), None, Start::Numerals(&start));
     view.check(
         &view.all(),
         "RANK LEVEL PARENT_ID NODE_ID
@@ -1308,7 +1309,7 @@ pub fn s8_8_nearest_common_ancestor(engine: &dyn Engine) {
 
 /// The first ten of 100 nodes with four children to a branch.
 pub fn s8_9_synthetic_data(engine: &dyn Engine) {
-    let mut view = View::default(engine, tables::synthetic());
+    let mut view = View::by_code(engine, tables::synthetic(), code(0, 0, 0));
     view.name = |number| if number == 0 { "-".to_string() } else { number.to_string() };
     assert_eq!(view.image.nodes(), 100);
     view.check(
@@ -1412,7 +1413,7 @@ pub fn s8_12_graphviz(engine: &dyn Engine) {
 /// Equal orders: the smaller numeral comes first, then the smaller row number.
 pub fn deviation_ties(engine: &dyn Engine) {
     // By row number B2 would come before B1, and so on all over the tree.
-    let view = View::default(engine, unordered(t_demo()));
+    let view = View::by_code(engine, unordered(t_demo()), code(0, 0, 0));
     view.check(
         &view.all(),
         "RANK NODE_ID
@@ -1431,7 +1432,7 @@ pub fn deviation_ties(engine: &dyn Engine) {
     // B1 below A1 twice: amount 5 was entered before amount 2, and B2 before both.
     let row = |parent, node, amount| Row::new(numeral(parent), numeral(node), 7, amount);
     let rows = vec![row("A1", "B2", 4), row("A1", "B1", 5), row("A1", "B1", 2), row("-", "A1", 1)];
-    let view = View::default(engine, rows);
+    let view = View::by_code(engine, rows, code(0, 0, 0));
     view.check(
         &view.all(),
         "RANK NODE_ID AMOUNT
@@ -1447,6 +1448,23 @@ pub fn deviation_ties(engine: &dyn Engine) {
     let view = View::new(engine, rows, code(2, 0, 0), None, Start::Numerals(&start));
     let adopter = view.image.body(view.rank_of("A1")).parent;
     assert_eq!(view.id_of(adopter), "B2");
+}
+
+/// Orphans of which nothing is said. The guide (3.1): "Orphans are silently ignored. This is the default
+/// behavior." So F6 of T_DEMO_ERR, below an E4 that isn't there, is left over. The build by default makes
+/// it a root behind the guide's nodes, which stay as they are.
+pub fn deviation_default(engine: &dyn Engine) {
+    let rows = t_demo_err(&[0, 1, 2, 3]);
+    let guide = View::by_code(engine, rows.clone(), code(0, 0, 0));
+    assert_eq!((guide.image.nodes(), guide.image.left), (18, 1));
+    let view = View::by_default(engine, rows);
+    assert_eq!((view.image.nodes(), view.image.left), (19, 0));
+    assert_eq!(view.image.bodies()[..18], guide.image.bodies());
+    view.check(
+        &view.all()[18..],
+        "RANK TREE_SIZE PARENT_RANK LEVEL ROOT_RANK IS_CYCLE IS_ORPHAN PARENT_ID NODE_ID
+         19 1 0 1 19 0 1 E4 F6",
+    );
 }
 
 /// The spanning tree of T_DEMO_ERR from all start nodes at once: H1, which the guide prints below E2

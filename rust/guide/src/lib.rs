@@ -8,6 +8,8 @@
 //! * Orphaned cycles: the guide adds an edge to a node of the cycle, and doesn't say
 //!   to which; the papers take the numeral of the lowest row whose numeral is on a
 //!   ring (`s3_1_orphaned_cycle`).
+//! * Orphans of which nothing is said: the guide ignores them; by request 2.7 of paper 02 they are roots
+//!   (`deviation_default`). So every other comparison names the options.
 //! * Siblings of equal order: the guide leaves their order open; the paper takes
 //!   the smaller numeral, then the smaller row number (`deviation_ties`).
 //! * Spanning trees: the guide keeps a node once for each start node that leads to it, the
@@ -43,6 +45,10 @@ pub trait Engine {
         depth: Option<i32>,
         start: Start,
     ) -> Result<Image, u32>;
+
+    /// Builds over `rows` by default, into slices of the engine's choice, which hold at least
+    /// 1,000 nodes.
+    fn build_default(&self, rows: &[Row]) -> Result<Image, u32>;
 
     /// Builds over lines of `width` cells into slices of the engine's choice, which
     /// hold at least 1,000 nodes.
@@ -201,6 +207,7 @@ list_examples! {
     s8_11_drill_down
     s8_12_graphviz
     deviation_ties
+    deviation_default
     deviation_spanning_tree
     deviation_levelled_lines
 }

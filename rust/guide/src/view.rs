@@ -44,6 +44,17 @@ impl<'a> View<'a> {
         View::of(engine, rows, image)
     }
 
+    /// Builds from the rows with parent 0, without a depth.
+    pub fn by_code(engine: &'a dyn Engine, rows: Vec<Row>, code: u32) -> View<'a> {
+        View::new(engine, rows, code, None, Start::ParentZero)
+    }
+
+    /// Builds by the engine's default, which isn't the guide's.
+    pub fn by_default(engine: &'a dyn Engine, rows: Vec<Row>) -> View<'a> {
+        let image = engine.build_default(&rows);
+        View::of(engine, rows, image)
+    }
+
     /// Builds a spanning tree.
     pub fn shortest(engine: &'a dyn Engine, rows: Vec<Row>, start: Start) -> View<'a> {
         let image = engine.build_shortest(&rows, start);
@@ -54,11 +65,6 @@ impl<'a> View<'a> {
         let image = built.expect("build accepted");
         assert!(engine.index_check(&image.index), "index check");
         View { engine, rows, image, name: id }
-    }
-
-    /// Builds a view with the default options.
-    pub fn default(engine: &'a dyn Engine, rows: Vec<Row>) -> View<'a> {
-        View::new(engine, rows, 0, None, Start::ParentZero)
     }
 
     /// All ranks.

@@ -38,6 +38,16 @@ impl Engine for Reference {
         Ok(Image { index, totals, left: built.left })
     }
 
+    fn build_default(&self, rows: &[Row]) -> Result<Image, u32> {
+        let mut index = vec![0; 8 + 6 * NODES];
+        let mut totals = vec![0; NODES + 1];
+        let built = build_default(rows, &mut index, &mut totals);
+        of(built.refusal)?;
+        assert_eq!(built.nodes, index[0]);
+        self.ties.borrow_mut().extend(ties(rows, &index));
+        Ok(Image { index, totals, left: built.left })
+    }
+
     fn build_levelled(&self, cells: &[u32], width: u32) -> Result<Image, u32> {
         let mut index = vec![0; 8 + 6 * NODES];
         let mut totals = vec![0; NODES + 1];
@@ -127,7 +137,7 @@ fn every_example_is_run() {
         assert!(list.lines().any(|line| line.trim() == name), "{name} is not run");
         count += 1;
     }
-    assert_eq!(count, 67);
+    assert_eq!(count, 68);
 }
 
 /// What the page's table of ties says of an example, the first two columns: how many neighbouring

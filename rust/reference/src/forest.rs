@@ -588,6 +588,26 @@ pub fn build_board(
     build(board.held(), code, depth, start, index, totals)
 }
 
+/// The option code, depth and start rule of a build by default: "The build by default moves from
+/// code 0 to code 3, still with no depth and parent 0".
+pub const BY_DEFAULT: (u32, Option<i32>, Start<'static>) = (3, None, Start::ParentZero);
+
+/// The build by default over `rows`, whose numerals are all 1 or more: [`build`] by [`BY_DEFAULT`],
+/// "and an accepted one leaves no row without a node". With root, allow and break up no refusal but
+/// 9 applies.
+pub fn build_default(rows: &[Row], index: &mut [u32], totals: &mut [i64]) -> Built {
+    let (code, depth, start) = BY_DEFAULT;
+    build(rows, code, depth, start, index, totals)
+}
+
+/// Builds from a board: refusal 1, then as [`build_default`].
+pub fn build_default_board(board: &Board, index: &mut [u32], totals: &mut [i64]) -> Built {
+    if !board.sound() {
+        return refuse(1, index, totals);
+    }
+    build_default(board.held(), index, totals)
+}
+
 /// A refused build: both slices and both counts are zeroed.
 pub(crate) fn refuse(refusal: u32, index: &mut [u32], totals: &mut [i64]) -> Built {
     index.fill(0);

@@ -3,7 +3,8 @@
 //! * [`machine`]: the plain machine, a row list R, a list K of earlier row lists and a list F of
 //!   undone ones.
 //! * [`board`]: the board record, its soundness and the edits on it.
-//! * [`forest`]: paths, nodes, their order and the build of the index image.
+//! * [`forest`]: paths, nodes, their order and the build of the index image, with any options or by
+//!   default.
 //! * [`shortest`]: the paths that shortest placement keeps, and the build from them.
 //! * [`levelled`]: beginnings of the lines of a levelled list, and the build from them.
 //! * [`navigation`]: span, descendants, ancestors, siblings and sums on any slices.
@@ -26,7 +27,10 @@ pub mod shortest;
 
 pub use board::{Board, Edited, Entry, Row};
 pub use check::index_check;
-pub use forest::{build, build_board, Body, Built, Forest, IslandEntry, Node, Options, Start};
+pub use forest::{
+    build, build_board, build_default, build_default_board, Body, Built, Forest, IslandEntry, Node,
+    Options, Start,
+};
 pub use levelled::{build_levelled, Levelled, LevelledNode};
 pub use listing::numerals;
 pub use machine::{Call, Machine};

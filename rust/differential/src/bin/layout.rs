@@ -41,6 +41,7 @@ fn main() {
             }
         }
     }
+    println!("default {}", Options::default().code());
     let added = Call::Add(Row::default());
     for call in [added, Call::Withdraw(0), Call::Remark(0, 0), Call::Undo, Call::Redo] {
         println!("call {}", call.words()[0]);
