@@ -1,4 +1,4 @@
-// Runs the marked cases M1 to M10 of paper 01 on its board of seven rows, then builds whose refusals or slices are easy to get wrong; prints one line a case after M1's listing.
+// Runs the marked cases M1 to M10 of paper 01 on its board of seven rows, the build by default, then builds whose refusals or slices are easy to get wrong; prints one line a case after M1's listing.
 use board::Board;
 use built::Built;
 use cases::answer;
@@ -210,6 +210,22 @@ fn marked() {
     asked(b"M10 empty board", Board::EMPTY, 0, Depth::None);
 }
 
+// By default the row whose parent isn't there, which code 0 leaves over, is a root.
+fn by_default() {
+    let mut index = [0u32; 62];
+    let mut totals = [0i64; 10];
+    let built = build::build_default(cases::sample_board(), &mut index, &mut totals);
+    say(b"by default");
+    report(built);
+    say(b", rank 9 parent");
+    number(index[59]);
+    say(b" numeral");
+    number(index[56]);
+    say(b", an orphan");
+    answer(packed::orphan_of(index[61]));
+    say(b"\n");
+}
+
 // Where several refusals hold, the first in the paper's order is the answer.
 fn first_refusals() {
     let board = cases::sample_board();
@@ -273,6 +289,7 @@ fn long_slices() {
 
 fn main() {
     marked();
+    by_default();
     first_refusals();
     short_slices();
     long_slices();
