@@ -20,7 +20,7 @@ ENTRIES = "board history build levelled navigate sums index_check whole_replay f
 
 # The theorems whose statements are followed.
 THEOREMS = {
-    "guarantee": "guarantee sound-build unsound-build sound-shortest unsound-shortest levelled-build marked-cases built-accepted built-distances built-links",
+    "guarantee": "guarantee sound-build unsound-build sound-default default-leaves-none sound-shortest unsound-shortest levelled-build marked-cases built-accepted built-distances built-links",
     "options": "taken-apart composed",
     "islands": "entries-entered entered-unique",
     "nodes": "joining-unique nodes-unique entry-closes entry-shares accepted-leaves-none",
@@ -36,7 +36,7 @@ NOT_BELIEVED = re.compile(r"(Laws|Layer|Cases)$")
 USE = re.compile(r"^ *(?:(?:unfoldable|pub|ghost) )*use ([^{]+?)(?:\.\{(.*)\})?(?: as (\S+))?;?$")
 PROJECT = re.compile(r"^Rattle·(\w+)(?:·specs|·proofs)?\.(?:specs\.)?(.+)$")
 MODULE = re.compile(r"^ *module \S+ ?(.*) where$")
-HEAD = re.compile(r"^ *(?:(?:abbrev|unfoldable|pub) )*(?:(record|data) (\S+)|(\S+) :(?: |$))")
+HEAD = re.compile(r"^ *(?:(?:abbrev|unfoldable|pub) )*(?:(record|data) (\S+)|(\S+)(?: \{[^:]*\})? :(?: |$))")
 PUBLIC = re.compile(r'^ *pub (?:extern "C" )?fn (\w+)')
 CONTRACT = re.compile(r"^ *(?:requires|ensures) \{(.*)\}$")
 

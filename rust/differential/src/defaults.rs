@@ -13,13 +13,13 @@ use reference::{build_board, build_default_board, Body, Built, Call, Start};
 
 /// What an accepted build by default finds among the rows.
 pub const FACTS: [&str; 7] = [
-    "all rows hang from start rows",
-    "a row whose parent isn't there",
-    "two such rows or more",
-    "rows below such a row",
-    "a ring with no way in",
-    "no start row",
-    "an orphan that shares its numeral with a row below a start row",
+    "by default, all rows hang from start rows",
+    "by default, a row whose parent isn't there",
+    "by default, two such rows or more",
+    "by default, rows below such a row",
+    "by default, a ring with no way in",
+    "by default, no start row",
+    "by default, an orphan with the numeral of a row that hangs from a start row",
 ];
 
 /// The build by default on both sides, into slices as the case has them; from Rust also by the options' default. Of an

@@ -6,7 +6,7 @@
 
 use differential::baseline;
 use differential::databases::DATABASES;
-use flowpewter::sys::{self, Edited};
+use flowpewter::sys::{self, Built, Edited};
 use flowpewter::{
     index_len, totals_len, Board, Entry, Row, JOURNAL_PLACES, MAX_LINES, MAX_NODES, MAX_WIDTH,
 };
@@ -31,6 +31,11 @@ fn wide() -> Vec<Row> {
 /// Each row below the one of half its number.
 fn tree() -> Vec<Row> {
     (1..=1_024).map(|number| Row::new(number / 2, number, number * 7 % 13, 1)).collect()
+}
+
+/// The tree without every eighth row: what was below one is an orphan.
+fn undrawn_tree() -> Vec<Row> {
+    tree().into_iter().filter(|row| row.numeral % 8 != 0).collect()
 }
 
 /// The tree, with a parent for its root that no row has: all rows are orphans.
@@ -148,28 +153,52 @@ fn print(job: &str, work: &str, times: (f64, f64)) {
     println!("{} |", line(job, work, times));
 }
 
-/// Answers the library's time in microseconds.
-fn builds(job: &str, rows: &[Row], code: u32, rounds: u32) -> f64 {
+/// A build on both sides, into slices for as many nodes as there can be. Answers the library's time in microseconds.
+fn race_builds(
+    job: &str,
+    rows: &[Row],
+    rounds: u32,
+    library: impl Fn(&Board, &mut [u32], &mut [i64]) -> Built,
+    rust: impl Fn(&Board, &mut [u32], &mut [i64]) -> Built,
+) -> f64 {
     let board = board(rows);
     let mut index = vec![0; index_len(MAX_NODES)];
     let mut totals = vec![0; totals_len(MAX_NODES)];
     let (mut other, mut others) = (index.clone(), totals.clone());
-    let built = sys::build(&board, code, None, None, &mut index, &mut totals);
-    let expected = baseline::build(&board, code, None, None, &mut other, &mut others);
-    assert_eq!(built, expected);
+    let built = library(&board, &mut index, &mut totals);
+    assert_eq!(built, rust(&board, &mut other, &mut others));
     assert!(index == other && totals == others);
     let times = race(
         rounds,
         || {
-            black_box(sys::build(black_box(&board), code, None, None, &mut index, &mut totals));
+            black_box(library(black_box(&board), &mut index, &mut totals));
         },
         || {
-            let board = black_box(&board);
-            black_box(baseline::build(board, code, None, None, &mut other, &mut others));
+            black_box(rust(black_box(&board), &mut other, &mut others));
         },
     );
     print(job, &format!("{} rows, {} nodes", rows.len(), built.nodes), times);
     times.0 / 1_000.0
+}
+
+fn builds(job: &str, rows: &[Row], code: u32, rounds: u32) -> f64 {
+    race_builds(
+        job,
+        rows,
+        rounds,
+        |board, index, totals| sys::build(board, code, None, None, index, totals),
+        |board, index, totals| baseline::build(board, code, None, None, index, totals),
+    )
+}
+
+fn default_build(job: &str, rows: &[Row], rounds: u32) {
+    race_builds(
+        &format!("build by default, {job}"),
+        rows,
+        rounds,
+        sys::build_default,
+        |board, index, totals| baseline::build(board, 3, None, None, index, totals),
+    );
 }
 
 fn shortest(job: &str, rows: &[Row], rounds: u32) {
@@ -457,6 +486,9 @@ fn main() {
     builds("build, ring of 512 rows with a row on each, as roots", &ring_with_leaves(), 3, 20);
     builds("build, worst board for the ring test, as roots", &chain_below_a_ring(), 3, 2);
     builds("build, small", &small(), 0, 200);
+    default_build("tree", &tree(), 20);
+    default_build("tree, every eighth row not drawn", &undrawn_tree(), 20);
+    default_build("sample", &sample(), 200);
     shortest_placements();
     levelled_lists();
     edits();
