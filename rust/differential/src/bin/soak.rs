@@ -2,7 +2,7 @@
 //! Prints its seed first and the counts at the end; fails at the first difference.
 #![forbid(unsafe_code)]
 
-use differential::{builds, edits, levelled, navigation, shortest, Tally};
+use differential::{builds, defaults, edits, levelled, navigation, shortest, Tally};
 use generate::{Random, HISTORIES};
 use std::time::{SystemTime, UNIX_EPOCH};
 
@@ -26,12 +26,14 @@ fn main() {
         for _ in 0..100 {
             builds::cases(&mut random, &mut tally);
             builds::islands(&mut random, &mut tally);
+            defaults::cases(&mut random, &mut tally);
             shortest::cases(&mut random, &mut tally);
             levelled::cases(&mut random, &mut tally);
             navigation::calls(&mut random, &mut tally);
             navigation::checks(&mut random, &mut tally);
         }
         builds::codes(&mut random, &mut tally);
+        defaults::drawn_in_any_order(&mut random, &mut tally);
         let kind = HISTORIES[round as usize % HISTORIES.len()];
         edits::histories(&mut random, kind, &mut tally);
         edits::replays(&mut random, kind, &mut tally);
