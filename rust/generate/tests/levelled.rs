@@ -1,6 +1,9 @@
 //! Builds of generated levelled lists: the reference against a tree of cells, and navigation
 //! against the beginnings.
 
+mod common;
+
+use common::Counts;
 use generate::levelled::{self, fitting_case, CELLS};
 use generate::*;
 use reference::levelled::line_order;
@@ -96,8 +99,8 @@ fn run(case: &LevelledCase) -> (Built, Vec<u32>, Vec<i64>) {
 fn levelled_lists_as_a_tree() {
     let mut random = Random::announced("levelled lists as a tree", 35);
     let mut seen = BTreeMap::new();
-    let mut facts = [0; levelled::FACTS.len()];
-    let mut refusals = [0; levelled::REFUSALS.len()];
+    let mut facts = Counts::new(levelled::FACTS);
+    let mut refusals = Counts::new(levelled::REFUSALS);
     for _ in 0..6_000 {
         let case = levelled_case(&mut random);
         let (built, index, totals) = run(&case);
@@ -105,22 +108,14 @@ fn levelled_lists_as_a_tree() {
         *seen.entry(built.refusal).or_insert(0) += 1;
         if built.refusal == 0 {
             assert!(index_check(&index));
-            let found = levelled::facts(&case, &index);
-            facts.iter_mut().zip(found).for_each(|(count, fact)| *count += fact as u32);
+            facts.add(levelled::facts(&case, &index));
         } else {
-            let found = levelled::refusals(&case, built.refusal);
-            refusals.iter_mut().zip(found).for_each(|(count, fact)| *count += fact as u32);
+            refusals.add(levelled::refusals(&case, built.refusal));
         }
     }
     println!("{seen:?}");
-    for (name, count) in levelled::FACTS.iter().zip(facts) {
-        println!("{name}: {count}");
-        assert!(count > 30, "{name}: {count}");
-    }
-    for (name, count) in levelled::REFUSALS.iter().zip(refusals) {
-        println!("{name}: {count}");
-        assert!(count > 10, "{name}: {count}");
-    }
+    facts.expect_above(30, |_| false);
+    refusals.expect_above(10, |_| false);
     assert_eq!(seen.keys().copied().collect::<Vec<_>>(), [0, 9, 18, 19]);
 }
 

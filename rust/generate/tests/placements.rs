@@ -1,6 +1,9 @@
 //! Shortest placements of generated rows: the reference against distances, against the request's sentence tried on every
 //! row list, and navigation against the kept paths.
 
+mod common;
+
+use common::Counts;
 use generate::builds::start_of;
 use generate::shortest::{self, shortest_case_of};
 use generate::*;
@@ -135,8 +138,8 @@ fn run(case: &ShortestCase) -> (Built, Vec<u32>, Vec<i64>) {
 fn shortest_placements_by_distances() {
     let mut random = Random::announced("shortest placements by distances", 37);
     let mut seen = BTreeMap::new();
-    let mut facts = [0; shortest::FACTS.len()];
-    let mut refusals = [0; shortest::REFUSALS.len()];
+    let mut facts = Counts::new(shortest::FACTS);
+    let mut refusals = Counts::new(shortest::REFUSALS);
     for _ in 0..6_000 {
         let case = shortest_case(&mut random);
         let (built, index, totals) = run(&case);
@@ -145,22 +148,14 @@ fn shortest_placements_by_distances() {
         *seen.entry(built.refusal).or_insert(0) += 1;
         if built.refusal == 0 {
             assert!(index_check(&index));
-            let found = shortest::facts(&case, &index);
-            facts.iter_mut().zip(found).for_each(|(count, fact)| *count += fact as u32);
+            facts.add(shortest::facts(&case, &index));
         } else {
-            let found = shortest::refusals(&case, built.refusal);
-            refusals.iter_mut().zip(found).for_each(|(count, fact)| *count += fact as u32);
+            refusals.add(shortest::refusals(&case, built.refusal));
         }
     }
     println!("{seen:?}");
-    for (name, count) in shortest::FACTS.iter().zip(facts) {
-        println!("{name}: {count}");
-        assert!(count > 10, "{name}: {count}");
-    }
-    for (name, count) in shortest::REFUSALS.iter().zip(refusals) {
-        println!("{name}: {count}");
-        assert!(count > 30, "{name}: {count}");
-    }
+    facts.expect_above(10, |_| false);
+    refusals.expect_above(30, |_| false);
     assert_eq!(seen.keys().copied().collect::<Vec<_>>(), [0, 9]);
 }
 
@@ -181,7 +176,7 @@ fn few_rows(random: &mut Random) -> Vec<Row> {
 #[test]
 fn shortest_placements_by_every_list() {
     let mut random = Random::announced("shortest placements by every list", 38);
-    let mut facts = [0; shortest::FACTS.len()];
+    let mut facts = Counts::new(shortest::FACTS);
     let mut accepted = 0;
     for _ in 0..3_000 {
         let rows = few_rows(&mut random);
@@ -191,18 +186,15 @@ fn shortest_placements_by_every_list() {
         assert!((built, index.clone(), totals) == expected, "{case:?}");
         if built.refusal == 0 {
             accepted += 1;
-            let found = shortest::facts(&case, &index);
-            facts.iter_mut().zip(found).for_each(|(count, fact)| *count += fact as u32);
+            facts.add(shortest::facts(&case, &index));
         }
     }
     println!("{accepted} accepted");
     // Those of boards that have over 1,000 rows, deep paths or very many don't count.
-    for (name, count) in shortest::FACTS.iter().zip(facts) {
-        println!("{name}: {count}");
-        let large =
-            name.starts_with("1,024") || name.contains("100") || name.contains("more paths");
-        assert!(count > 10 || large, "{name}: {count}");
-    }
+    let large = |name: &str| {
+        name.starts_with("1,024") || name.contains("100") || name.contains("more paths")
+    };
+    facts.expect_above(10, large);
 }
 
 /// Navigation on indexes of shortest placements, against the kept paths.

@@ -1,6 +1,9 @@
 //! Shortest placement over generated boards: the kept paths by all regular paths, by length, and
 //! one by one from what is still to go.
 
+mod common;
+
+use common::Counts;
 use generate::builds::{size, start, start_of};
 use generate::*;
 use reference::forest::{forest, sibling_order};
@@ -100,7 +103,7 @@ fn agrees_stepwise(rows: &[Row], start: Start, kept: &[Node], targets: &[u32]) {
 #[test]
 fn small_boards_three_ways() {
     let mut random = Random::announced("small boards three ways", 81);
-    let mut counts = [0; FACTS.len()];
+    let mut counts = Counts::new(FACTS);
     let mut listed = 0;
     for _ in 0..8_000 {
         let shape = random.pick(&SHAPES);
@@ -121,15 +124,11 @@ fn small_boards_three_ways() {
         assert_eq!(by_all, kept, "{rows:?} {start:?}");
         listed += 1;
         let paths = forest(&rows, 0, None, start, &|_| true).unwrap().nodes;
-        let found = facts(&rows, start, &paths, &kept);
-        counts.iter_mut().zip(found).for_each(|(count, fact)| *count += fact as u32);
+        counts.add(facts(&rows, start, &paths, &kept));
     }
     println!("{listed} boards whose paths are listed");
     assert!(listed > 7_000);
-    for (name, count) in FACTS.iter().zip(counts) {
-        println!("{name}: {count}");
-        assert!(count > 200, "{name}: {count}");
-    }
+    counts.expect_above(200, |_| false);
 }
 
 /// Boards up to 1,024 rows, some of whose paths can't be listed.

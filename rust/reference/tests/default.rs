@@ -2,8 +2,14 @@
 //! board against code 0, the default before.
 
 mod common;
+#[path = "common/flagged.rs"]
+mod flagged;
+#[path = "common/marked.rs"]
+mod marked;
 
 use common::{accepted, image_in, refused, zeroed, Image};
+use flagged::bodies;
+use marked::{board_of, MARKED};
 use reference::*;
 
 const ON: Start = Start::ParentZero;
@@ -25,40 +31,8 @@ fn by_code(rows: &[Row], code: u32) -> Built {
     image_in(2_000, |index, totals| build(rows, code, None, ON, index, totals)).built
 }
 
-/// Numeral, row number, tree size, parent rank, root rank, level, closing, orphan of each node.
-fn bodies(image: &Image) -> Vec<[u32; 8]> {
-    (1..=image.built.nodes as usize)
-        .map(|rank| Body::read(&image.index, rank))
-        .map(|b| {
-            let (closing, orphan) = (b.closing as u32, b.orphan as u32);
-            [b.numeral, b.row, b.size, b.parent, b.root, b.level, closing, orphan]
-        })
-        .collect()
-}
-
 fn bodies_of(rows: &[Row]) -> Vec<[u32; 8]> {
     bodies(&by_default(rows))
-}
-
-/// The marked board of the scope paper.
-const MARKED: [Row; 7] = [
-    Row::new(0, 10, 1, 5),
-    Row::new(10, 20, 2, 3),
-    Row::new(10, 30, 1, 4),
-    Row::new(20, 40, 1, 2),
-    Row::new(30, 40, 1, 1),
-    Row::new(40, 20, 1, -1),
-    Row::new(90, 91, 1, 7),
-];
-
-fn board_of(rows: &[Row]) -> Board {
-    let mut board = Board::EMPTY;
-    for row in rows {
-        let edited = board.add(*row);
-        assert_eq!(edited.refusal, 0);
-        board = edited.board;
-    }
-    board
 }
 
 // The marked board and the empty one.

@@ -1,5 +1,9 @@
 //! Every worked figure of the scope paper: the listing, M1 to M10 and the limits.
 
+#[path = "common/marked.rs"]
+mod marked;
+
+use marked::{board_of, MARKED};
 use reference::*;
 
 const INPUT: &[u8] =
@@ -17,34 +21,16 @@ const LISTING: &str = "rank size parent level root cycle orphan id sum
 9 1 0 1 9 0 1 91 7
 ";
 
-fn marked_rows() -> Vec<Row> {
-    vec![
-        Row::new(0, 10, 1, 5),
-        Row::new(10, 20, 2, 3),
-        Row::new(10, 30, 1, 4),
-        Row::new(20, 40, 1, 2),
-        Row::new(30, 40, 1, 1),
-        Row::new(40, 20, 1, -1),
-        Row::new(90, 91, 1, 7),
-    ]
-}
-
 fn marked_machine() -> Machine {
     let mut machine = Machine::new();
-    for row in marked_rows() {
+    for row in MARKED {
         assert_eq!(machine.add(row), 0);
     }
     machine
 }
 
 fn marked_board() -> Board {
-    let mut board = Board::EMPTY;
-    for row in marked_rows() {
-        let edited = board.add(row);
-        assert_eq!(edited.refusal, 0);
-        board = edited.board;
-    }
-    board
+    board_of(&MARKED)
 }
 
 struct Image {
@@ -184,7 +170,7 @@ fn m8_withdraw_and_undo() {
     assert_eq!(machine.rows[1], Row::new(10, 30, 1, 4));
     let withdrawn = machine.rows.clone();
     assert_eq!(machine.undo(), 0);
-    assert_eq!(machine.rows, marked_rows());
+    assert_eq!(machine.rows, MARKED);
     assert_eq!(machine.kept, marked_machine().kept);
     assert_eq!(machine.undone, [withdrawn]);
 
@@ -192,7 +178,7 @@ fn m8_withdraw_and_undo() {
     assert_eq!(edited.refusal, 0);
     let edited = edited.board.undo();
     assert_eq!(edited.refusal, 0);
-    assert_eq!(edited.board.held(), marked_rows());
+    assert_eq!(edited.board.held(), MARKED);
     assert_eq!(edited.board.kept_entries(), marked_board().kept_entries());
     assert_eq!(edited.board.machine(), Some(machine));
 }

@@ -1,8 +1,11 @@
 //! Islands join the tree: entries, what goes on from them and their places, worked out by hand.
 
 mod common;
+#[path = "common/flagged.rs"]
+mod flagged;
 
 use common::{accepted, image_in, refused, Image};
+use flagged::bodies;
 use reference::*;
 
 const ON: Start = Start::ParentZero;
@@ -16,17 +19,6 @@ fn row(parent: u32, numeral: u32, order: u32) -> Row {
 
 fn build_all(rows: &[Row], code: u32, start: Start) -> Image {
     image_in(4_000, |index, totals| build(rows, code, None, start, index, totals))
-}
-
-/// Numeral, row number, tree size, parent rank, root rank, level, closing, orphan of each node.
-fn bodies(image: &Image) -> Vec<[u32; 8]> {
-    (1..=image.built.nodes as usize)
-        .map(|rank| Body::read(&image.index, rank))
-        .map(|b| {
-            let (closing, orphan) = (b.closing as u32, b.orphan as u32);
-            [b.numeral, b.row, b.size, b.parent, b.root, b.level, closing, orphan]
-        })
-        .collect()
 }
 
 /// A build under adopt or root where every row ends a node.

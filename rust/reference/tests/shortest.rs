@@ -2,8 +2,11 @@
 //! by hand.
 
 mod common;
+#[path = "common/marked.rs"]
+mod marked;
 
 use common::{accepted, image_in, refused, zeroed, Image};
+use marked::{board_of, MARKED};
 use reference::shortest::{kept_by_length, kept_of_all};
 use reference::*;
 
@@ -33,27 +36,6 @@ fn bodies_of(rows: &[Row], start: Start, left: u32) -> Vec<[u32; 6]> {
     let image = build_all(rows, start);
     assert_eq!((image.built.refusal, image.built.left), (0, left));
     bodies(&image)
-}
-
-/// The marked board of the scope paper.
-const MARKED: [Row; 7] = [
-    Row::new(0, 10, 1, 5),
-    Row::new(10, 20, 2, 3),
-    Row::new(10, 30, 1, 4),
-    Row::new(20, 40, 1, 2),
-    Row::new(30, 40, 1, 1),
-    Row::new(40, 20, 1, -1),
-    Row::new(90, 91, 1, 7),
-];
-
-fn board_of(rows: &[Row]) -> Board {
-    let mut board = Board::EMPTY;
-    for row in rows {
-        let edited = board.add(*row);
-        assert_eq!(edited.refusal, 0);
-        board = edited.board;
-    }
-    board
 }
 
 // The marked board.
