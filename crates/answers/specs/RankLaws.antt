@@ -1,13 +1,13 @@
--- Ranks, falling, of the nodes that pass a test: as many as those nodes, and with the same sum. Assumes nothing.
+-- Ranks of the nodes that pass a test, rising and falling: as many as those nodes, and with the same sum. Assumes nothing.
 use mathlib.Core.Path.{_≡_, refl, sym, ap, _∙_}
 use mathlib.Core.Logic.{inl, inr}
 use mathlib.Core.Bool.{Bool}
-use mathlib.Core.List.{List, [], _∷_, _++_, map-id}
+use mathlib.Core.List.{List, [], _∷_, _++_, map, map-id}
 use Prim.Native.Nat.{ℕ, zero, suc, _+_, _≤_, _<_}
 use native.Mathlib.Omega.{arith}
 use native.Mathlib.Decide.{ℕ-discrete}
 use lib.IntN.{ℤ, pos, _+ℤ_}
-use lib.ListN.{length}
+use lib.ListN.{length, length-map}
 use lib.Signed.{mag}
 use Rattle.lists.specs.Lists.{_∈_, filter, numbers, Increasing, sum}
 use Rattle.lists.specs.MemberLaws.{filter-append, filter-map, numbers-append, sum-append, sum-keep, sum-map, sum-ones}
@@ -48,12 +48,18 @@ sum-turned f h (suc n) =
     ∙ ap (λ m. sum f (filter h (numbers 1 m))) e
 
 module _ (f : List ℕ → Bool) (W : List (List ℕ)) where
+  -- the nodes that pass, found by their ranks
+  pub passing : map (nodeAt W) (filter (λ k. f (nodeAt W k)) (numbers 1 (length W))) ≡ filter f W
+  passing = sym (filter-map f (nodeAt W) (numbers 1 (length W))) ∙ ap (filter f) (map-ranks (nodeAt W) (λ p. p) W [] (length W) refl (λ k a b. refl) ∙ map-id W)
+
+  pub count-rising : length (filter (λ k. f (nodeAt W k)) (numbers 1 (length W))) ≡ length (filter f W)
+  count-rising = sym (length-map (filter (λ k. f (nodeAt W k)) (numbers 1 (length W))) (nodeAt W)) ∙ ap length passing
+
   pub sum-ranks : (minutes : List ℕ → ℤ) → sum (λ k. minutes (nodeAt W k)) (filter (λ k. f (nodeAt W k)) (falling (length W))) ≡ sum minutes (filter f W)
   sum-ranks minutes =
       sum-turned (λ k. minutes (nodeAt W k)) (λ k. f (nodeAt W k)) (length W)
       ∙ sym (sum-map minutes (nodeAt W) (filter (λ k. f (nodeAt W k)) (numbers 1 (length W))))
-      ∙ ap (sum minutes) (sym (filter-map f (nodeAt W) (numbers 1 (length W))))
-      ∙ ap (λ l. sum minutes (filter f l)) (map-ranks (nodeAt W) (λ p. p) W [] (length W) refl (λ k a b. refl) ∙ map-id W)
+      ∙ ap (sum minutes) passing
 
   pub count-ranks : length (filter (λ k. f (nodeAt W k)) (falling (length W))) ≡ length (filter f W)
   count-ranks = ap mag (sym (sum-ones (filter (λ k. f (nodeAt W k)) (falling (length W)))) ∙ sum-ranks (λ _. pos 1) ∙ sum-ones (filter f W))

@@ -1,10 +1,9 @@
 -- Every index that an accepted build leaves is accepted by the index check, its ancestors are at distances of 0 or less, and the links to them are the level less 1: for every board, option code,
 -- depth, start rule and slices. Assumes nothing.
-use mathlib.Core.Path.{_≡_, refl}
-use mathlib.Core.Bool.{Bool, true, false, cond}
+use mathlib.Core.Path.{_≡_}
+use mathlib.Core.Bool.{Bool, true}
 use mathlib.Core.List.{List}
 use Prim.Native.Nat.{ℕ, _≤_}
-use native.Mathlib.Omega.{arith}
 use lib.IntN.{ℤ}
 use lib.ListN.{length}
 use Rattle.rows.specs.declared.Row.{Row}

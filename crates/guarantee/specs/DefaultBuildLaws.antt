@@ -22,7 +22,7 @@ use Rattle.nodes.specs.BodyLaws.{shown-row}
 use Rattle.request.specs.declared.Start.the-variants.{ParentZero}
 use Rattle.built.specs.declared.Built.{Built}
 use Rattle.answers.specs.Answers.{First, noOther}
-use Rattle.answers.specs.AnswerLaws.{first-past, first-later}
+use Rattle.answers.specs.TestLaws.{first-past, first-later}
 use Rattle.guarantee.specs.Builds.{NoRoom, Accepted}
 use Rattle.guarantee.specs.PathBuilds.{buildNodes, BuildRefusal, PathBuild, BuildOn}
 use Rattle.guarantee.specs.DefaultBuilds.{HasNode, DefaultBuild, DefaultOn}

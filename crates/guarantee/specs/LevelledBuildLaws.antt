@@ -1,7 +1,7 @@
 -- Every build of a levelled list is as LevelledBuilds says: for every slice of cells, width and slices. Assumes nothing.
 use mathlib.Core.Path.{_≡_, refl, sym, ap, subst, _∙_}
 use mathlib.Core.Logic.{_↔_}
-use mathlib.Core.Bool.{Bool, true, cond, not, _||_}
+use mathlib.Core.Bool.{true, cond, not, _||_}
 use mathlib.Core.List.{List, [], _∷_}
 use Prim.Native.Nat.{ℕ, suc, _+_, _-_, _/_, _%_, _≤_, _<_}
 use native.Mathlib.Omega.{arith}
@@ -10,8 +10,8 @@ use lib.IntN.{ℤ, pos}
 use lib.ListN.{length, getD, replicate}
 use borrow.Author.Tests.{ltb-false}
 use Rattle.lists.specs.ChoiceLaws.{or-no, cond-none}
-use Rattle.lists.specs.Lists.{_∈_, keep, filter, numbers, Increasing, totalsFrom}
-use Rattle.lists.specs.MemberLaws.{filter-in, filter-out, numbers-in, numbers-out, numbers-rising, increasing-filter, map-agree, map-map, keep-length, sort-out, sort-count}
+use Rattle.lists.specs.Lists.{_∈_, filter, numbers, Increasing, totalsFrom}
+use Rattle.lists.specs.MemberLaws.{filter-in, filter-out, numbers-in, numbers-out, numbers-rising, increasing-filter, map-agree, map-map, sort-out, sort-count}
 use Rattle.lists.specs.StoreLaws.{getD-mapped}
 use Rattle.image.specs.declared.Body.{Body}
 use Rattle.index_check.specs.IndexCheck.{accepts}
@@ -24,13 +24,14 @@ use Rattle.levels.specs.LineLaws.{Upto}
 use Rattle.levels.specs.NodeLaws.{nodes-of-lines}
 use Rattle.levels.specs.LevelledLaws.{list-wide, list-sorted, nodes-by-line, levelled-forest, above-longest, top-shortest, node-short}
 use Rattle.answers.specs.Answers.{DistancesAtMostZero, LinksByBeginnings}
-use Rattle.answers.specs.AnswerLaws.{first-step, less}
-use Rattle.answers.specs.DescribedLaws.{Described, levelled}
+use Rattle.answers.specs.TestLaws.{one-of, equal, unequal, less, first-step}
+use Rattle.answers.specs.DescribedLaws.{Described}
+use Rattle.answers.specs.RankLaws.{count-rising}
 use Rattle.guarantee.specs.Builds.{NodeList, BodyOf}
 use Rattle.built.specs.OutcomeLayer.{Outcome, answerWhen, indexWhen, totalsWhen}
 use Rattle.guarantee.specs.KindLaws.{Fitting, checked-here, beginnings-here, distances-here, when-none, kind-build}
 use Rattle.guarantee.specs.LevelledBuilds.{levelledKind, LevelledRefusal, LevelledBuild, AnyLevelledBuild}
-use Rattle.guarantee.specs.SentenceLaws.{one-of, equal, unequal, ninth}
+use Rattle.guarantee.specs.SentenceLaws.{ninth}
 
 module _ (s : List ℕ) (w : ℕ) where
   abbrev S : List (List ℕ)
@@ -64,19 +65,9 @@ module _ (s : List ℕ) (w : ℕ) where
   blankPlaces : List ℕ
   blankPlaces = filter (λ x. blankLine (getD S (x - 1) [])) (numbers 1 (length S))
 
-  blank-count : (f : List ℕ → Bool) (L M : List (List ℕ)) (k : ℕ) → ((i : ℕ) → i < length L → getD M (k + i - 1) [] ≡ getD L i []) → length (filter (λ x. f (getD M (x - 1) [])) (numbers k (length L))) ≡ length (filter f L)
-  blank-count f [] M k h = refl
-  blank-count f (l ∷ L) M k h = keep-length (f (getD M (k - 1) [])) k l (filter (λ x. f (getD M (x - 1) [])) (numbers (suc k) (length L))) (filter f L) (blank-count f L M (suc k) (λ i b. later i b)) ∙ ap (λ t. length (keep t l (filter f L))) here
-    where
-      here : f (getD M (k - 1) []) ≡ f l
-      here = let e : k + 0 - 1 ≡ k - 1 = omega arith in ap f (sym (ap (λ i. getD M i []) e) ∙ h 0 (omega arith))
-
-      later : (i : ℕ) → i < length L → getD M (suc k + i - 1) [] ≡ getD L i []
-      later i b = let e : suc k + i - 1 ≡ k + suc i - 1 = omega arith in ap (λ j. getD M j []) e ∙ h (suc i) (omega arith)
-
   blank-rows : length blankPlaces ≡ blankLines s w
   unfolding blankPlaces
-  blank-rows = blank-count blankLine S S 1 (λ i h. let e : 1 + i - 1 ≡ i = omega arith in ap (λ j. getD S j []) e) ∙ sort-count lineBefore blankLine (linesOf s w)
+  blank-rows = count-rising blankLine S ∙ sort-count lineBefore blankLine (linesOf s w)
 
   blank-is : (x : ℕ) → (x ∈ blankPlaces) ↔ ((1 ≤ x) × (x ≤ length S) × T (blankLine (getD S (x - 1) [])))
   unfolding blankPlaces

@@ -1,15 +1,15 @@
 -- The tests of refusals 6 to 12 say what the sentences say, and the first that applies is the build's refusal. Assumes nothing.
 use mathlib.Core.Path.{_≡_, refl, sym, ap, subst, _∙_}
 use mathlib.Core.Logic.{_⊎_, inl, inr, ⊎-elim, _≢_, _↔_}
-use mathlib.Core.Bool.{Bool, true, false, not, _&&_, _||_}
+use mathlib.Core.Bool.{Bool, false, not, _&&_, _||_}
 use mathlib.Core.List.{List, []}
 use Prim.Native.Nat.{ℕ, suc, _+_, _*_, _-_, _<_}
 use native.Mathlib.Omega.{arith}
 use native.Mathlib.Decide.{decLt}
-use lib.Dec.{T, T-not, not-T, eqb, eqb→eq, ltb}
+use lib.Dec.{T, eqb, ltb}
 use lib.ListN.{length, getD}
 use Rattle.lists.specs.Lists.{_∈_, any}
-use Rattle.lists.specs.MemberLaws.{eq→eqb, or-out, or-left, or-right, and-out, and-in, is-true, is-false, any-out, any-in, getD-in, place-of, increasing-at}
+use Rattle.lists.specs.MemberLaws.{any-out, any-in, getD-in, place-of, increasing-at}
 use Rattle.rows.specs.declared.Row.{Row}
 use Rattle.options.specs.declared.Depth.{Depth}
 use Rattle.options.specs.Options.{orphanOf, multiOf, cycleOf}
@@ -27,28 +27,10 @@ use Rattle.nodes.specs.Refusals.{orphanChoice, given, isEmpty, shared, refusal6
 use Rattle.nodes.specs.NodeLaws.{nodes-once}
 use Rattle.nodes.specs.BodyLaws.{bodies-length}
 use Rattle.nodes.specs.RefusalLaws.{some-top, some-island, no-start, some-unreached, shared-is}
-use Rattle.answers.specs.AnswerLaws.{first-step, less}
+use Rattle.answers.specs.TestLaws.{both, one-of, equal, unequal, less, holds, fails, first-step}
 use Rattle.guarantee.specs.Builds.{BodyOf, Shares, NoRoom}
 use Rattle.guarantee.specs.PathBuilds.{Closing, pathNodes, BuildRefusal}
 use Rattle.guarantee.specs.BodyLaws.{body-of}
-
-both : (a b : Bool) {A B : Type 0} → T a ↔ A → T b ↔ B → T (a && b) ↔ (A × B)
-both a b f g = ((λ t. let r = and-out a b t in (f .0 (r .0), g .0 (r .1))), (λ x. and-in a b (f .1 (x .0)) (g .1 (x .1))))
-
-pub one-of : (a b : Bool) {A B : Type 0} → T a ↔ A → T b ↔ B → T (a || b) ↔ (A ⊎ B)
-one-of a b f g = ((λ t. ⊎-elim (λ x. inl (f .0 x)) (λ x. inr (g .0 x)) (or-out a b t)), ⊎-elim (λ x. or-left a b (f .1 x)) (λ x. or-right a b (g .1 x)))
-
-pub equal : (a b : ℕ) → T (eqb a b) ↔ (a ≡ b)
-equal a b = (eqb→eq a b, eq→eqb a b)
-
-pub unequal : (a b : ℕ) → T (not (eqb a b)) ↔ (a ≢ b)
-unequal a b = ((λ t e. T-not (eqb a b) t (eq→eqb a b e)), (λ n. not-T (eqb a b) (λ t. n (eqb→eq a b t))))
-
-holds : (t : Bool) → T t ↔ (t ≡ true)
-holds t = (is-true t, (λ e. subst T (sym e) tt))
-
-fails : (t : Bool) → T (not t) ↔ (t ≡ false)
-fails t = ((λ n. is-false t (T-not t n)), (λ e. subst (λ x. T (not x)) (sym e) tt))
 
 -- sentence 9
 pub ninth : (n words totals : ℕ) → T (refusal9 n words totals) ↔ NoRoom words totals n

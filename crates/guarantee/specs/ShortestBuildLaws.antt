@@ -26,7 +26,7 @@ use Rattle.shortest.specs.OutcomeLayer.{shortestOutcome}
 use Rattle.shortest.specs.ShortestLaws.{shortest-is, shortest-increasing, shortest-forest, shortest-closed, shortest-few, kept-once, kept-reaches, kept-open, kept-row, bodies-map, left-is}
 use Rattle.paths.specs.PathLaws.{path-bounded}
 use Rattle.request.specs.Build.{startRule}
-use Rattle.answers.specs.AnswerLaws.{first-step}
+use Rattle.answers.specs.TestLaws.{first-step}
 use Rattle.answers.specs.DescribedLaws.{Described, closed-described}
 use Rattle.answers.specs.Answers.{DistancesAtMostZero, LinksByLevel}
 use Rattle.index_check.specs.IndexCheck.{accepts}
