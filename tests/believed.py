@@ -16,7 +16,7 @@ import re
 import sys
 
 # The crates whose public functions are the product's calls: what their contracts cite is followed.
-ENTRIES = "board history build levelled navigate sums index_check whole_replay flowpewter lines printing listing streams numerals"
+ENTRIES = "board history build levelled spans navigate climb sums index_check whole_replay flowpewter lines printing listing streams numerals"
 
 # The theorems whose statements are followed.
 THEOREMS = {

@@ -14,8 +14,8 @@ use Rattle.lists.specs.MemberLaws.{filter-out}
 use Rattle.image.specs.declared.Body.{Body}
 use Rattle.image.specs.Layout.{levelAt}
 use Rattle.image.specs.ImageLayer.{HoldsImage}
-use Rattle.navigate.specs.Navigate.{within, distance}
-use Rattle.navigate.specs.Climb.{chain, ancestorList, ancestorsAnswer}
+use Rattle.rank_filter.specs.Distances.{within, distance}
+use Rattle.climb.specs.Climb.{chain, ancestorList, ancestorsAnswer}
 use Rattle.sums.specs.HeldLaws.{HoldsTotals}
 use Rattle.forest.specs.Nodes.{nodeAt, begins, falling, init, beginnings}
 use Rattle.forest.specs.ForestLaws.{Forest, Closed}

@@ -17,9 +17,9 @@ use Rattle.lists.specs.MemberLaws.{is-false, any-out, sum-agree, sum-slice, fil
 use Rattle.image.specs.declared.Body.{Body}
 use Rattle.image.specs.Layout.{bodyOf}
 use Rattle.image.specs.ImageLayer.{HoldsImage}
-use Rattle.navigate.specs.Navigate.{rankRefusal}
-use Rattle.navigate.specs.HeldLaws.{noRank}
-use Rattle.navigate.specs.Climb.{chain}
+use Rattle.spans.specs.Spans.{rankRefusal}
+use Rattle.spans.specs.HeldLaws.{noRank}
+use Rattle.climb.specs.Climb.{chain}
 use Rattle.sums.specs.Sums.{totalAt, leaves32, ownMinutes, badTotals, badOwn, badPath, pathSum, sumAnswer, pathAnswer}
 use Rattle.sums.specs.HeldLaws.{HoldsTotals, total-is, total-near, totals-held}
 use Rattle.forest.specs.Nodes.{nodeAt, begins, beginnings, falling}

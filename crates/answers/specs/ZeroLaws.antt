@@ -8,8 +8,9 @@ use lib.IntN.{ℤ}
 use lib.ListN.{length, replicate}
 use Rattle.lists.specs.Choice.{firstOf}
 use Rattle.image.specs.Layout.{badContents}
-use Rattle.navigate.specs.Navigate.{badRank, badSpan, endOf, rankRefusal, spanRefusal, descendantList, siblingList, listAnswer, listOut}
-use Rattle.navigate.specs.Climb.{chain, badClimb, climbRefusal, ancestorList, climbAnswer}
+use Rattle.spans.specs.Spans.{badRank, badSpan, endOf, rankRefusal, spanRefusal}
+use Rattle.navigate.specs.Navigate.{descendantList, siblingList, listAnswer, listOut}
+use Rattle.climb.specs.Climb.{chain, badClimb, climbRefusal, ancestorList, climbAnswer}
 use Rattle.sums.specs.Sums.{totalAt, fewTotals, totalsRefusal, beyond, sumAnswer, spanSum, badPath, pathSum}
 use Rattle.answers.specs.Answers.{RefusedNavigation}
 

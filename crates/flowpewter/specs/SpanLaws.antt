@@ -6,7 +6,7 @@ use mathlib.Core.List.{List, []}
 use lib.ListN.{take, drop}
 use lib.Dec.{eqb}
 use Rattle.image.specs.Layout.{bodyAt, sizeAt}
-use Rattle.navigate.specs.Navigate.{spanRefusal, spanPart}
+use Rattle.spans.specs.Spans.{spanRefusal, spanPart}
 use Rattle.flowpewter.specs.declared.Span.{Span}
 use Rattle.flowpewter.specs.Spans.{spanOf}
 

@@ -4,7 +4,7 @@ use mathlib.Core.Bool.{cond}
 use mathlib.Core.List.{List}
 use lib.Dec.{eqb}
 use Rattle.image.specs.Layout.{bodyAt, sizeAt}
-use Rattle.navigate.specs.Navigate.{spanRefusal}
+use Rattle.spans.specs.Spans.{spanRefusal}
 use Rattle.flowpewter.specs.declared.Span.{Span}
 
 -- "Span: a returned part of the index slice, the bodies of ranks r to r + size − 1"; "a refused navigation .. returns .. a span of no words"

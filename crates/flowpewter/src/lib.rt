@@ -3,7 +3,7 @@ ghost use mathlib.Core.Path.{_≡_};
 ghost use lib.ListN.{length};
 ghost use Rattle.board.specs.Edits.{emptyOf, soundOf, addOf, withdrawOf, remarkOf, undoOf, redoOf};
 ghost use Rattle.navigate.specs.Navigate.{descendantsAnswer, descendantsOut, siblingsAnswer, siblingsOut};
-ghost use Rattle.navigate.specs.Climb.{ancestorsAnswer, ancestorsOut};
+ghost use Rattle.climb.specs.Climb.{ancestorsAnswer, ancestorsOut};
 ghost use Rattle.sums.specs.Sums.{subtreeAnswer, pathAnswer};
 ghost use Rattle.index_check.specs.IndexCheck.{accepts};
 ghost use Rattle.request.specs.Build.{startRule, builtOf, indexAfter, totalsAfter, byDefault};
@@ -15,8 +15,8 @@ ghost use Rattle.flowpewter.specs.Requests.{depthOf, startOf};
 use board::Board;
 use board::Edited;
 use built::Built;
+use climb::Climbed;
 use history::Replayed;
-use navigate::Climbed;
 use navigate::Listed;
 use options::Depth;
 use request::Start;
@@ -176,7 +176,7 @@ pub extern "C" fn flowpewter_build_levelled(
 pub extern "C" fn flowpewter_span(index: &[u32], rank: u32) -> Span
     ensures { λ r. ⌜ r ≡ spanOf (now (index .entry)) rank ⌝ }
 {
-    let refusal = navigate::span_refusal(index, rank);
+    let refusal = spans::span_refusal(index, rank);
     if refusal != 0 {
         return Span {
             refusal,
@@ -217,7 +217,7 @@ pub extern "C" fn flowpewter_ancestors(
     ensures { λ r. ⌜ r ≡ ancestorsAnswer (now (index .entry)) rank lo hi (now (out .entry)) ⌝ }
     ensures { λ _. ⌜ now (out .exit) ≡ ancestorsOut (now (index .entry)) rank lo hi (now (out .entry)) ⌝ }
 {
-    navigate::ancestors(index, rank, lo, hi, out)
+    climb::ancestors(index, rank, lo, hi, out)
 }
 
 #[no_mangle]

@@ -20,7 +20,7 @@ use Rattle.image.specs.Sample.{printed, listing, listingWords}
 use Rattle.paths.specs.Rows.{parentZero}
 use Rattle.paths.specs.Sample.{sample}
 use Rattle.navigate.specs.Navigate.{descendantsAnswer, descendantsOut}
-use Rattle.navigate.specs.Climb.{ancestorsAnswer, ancestorsOut}
+use Rattle.climb.specs.Climb.{ancestorsAnswer, ancestorsOut}
 use Rattle.sums.specs.Sums.{subtreeAnswer}
 use Rattle.built.specs.declared.Built.{Built}
 use Rattle.request.specs.Build.{builtOf, indexAfter, totalsAfter}

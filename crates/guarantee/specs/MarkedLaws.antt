@@ -28,8 +28,9 @@ use Rattle.nodes.specs.Nodes.{entriesOf, withEntries, entryNodes, nodes}
 use Rattle.nodes.specs.Bodies.{bodies, leftRows, leftOf, runningTotals}
 use Rattle.nodes.specs.Refusals.{refusalOf}
 use Rattle.paths.specs.Sample.{sample}
-use Rattle.navigate.specs.Navigate.{badRank, badSpan, descendantList, descendantsAnswer, descendantsOut}
-use Rattle.navigate.specs.Climb.{climbFrom, stuckFrom, ancestorsAnswer, ancestorsOut}
+use Rattle.spans.specs.Spans.{badRank, badSpan}
+use Rattle.navigate.specs.Navigate.{descendantList, descendantsAnswer, descendantsOut}
+use Rattle.climb.specs.Climb.{climbFrom, stuckFrom, ancestorsAnswer, ancestorsOut}
 use Rattle.sums.specs.Sums.{beyond, subtreeAnswer}
 use Rattle.built.specs.declared.Built.{Built}
 use Rattle.request.specs.Build.{buildRefusal, builtOf, indexAfter, totalsAfter}

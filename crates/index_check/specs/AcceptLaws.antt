@@ -16,7 +16,7 @@ use Rattle.image.specs.Layout.{nodeCount, sizeAt, parentAt, rootAt, wordAt, lev
 use Rattle.image.specs.ImageLaws.{node-count-read, contents-read, contents-hold, word-packed, length-flat}
 use Rattle.image.specs.ImageLayer.{HoldsImage}
 use Rattle.image.specs.declared.Body.{Body}
-use Rattle.navigate.specs.Navigate.{endOf}
+use Rattle.spans.specs.Spans.{endOf}
 use Rattle.index_check.specs.IndexCheck.{contains, parentOf, zerosRight, checkRight, sizeRight, endRight, parentRight, levelRight, rootRight, bitsRight, rankRight, accepts}
 use Rattle.index_check.specs.RankLaws.{Right, contains-yes, contains-out, contains-no}
 

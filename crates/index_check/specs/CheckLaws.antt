@@ -12,7 +12,7 @@ use Rattle.lists.specs.ChoiceLaws.{and-yes}
 use Rattle.lists.specs.Lists.{allTo}
 use Rattle.lists.specs.RangeLaws.{all-at}
 use Rattle.image.specs.Layout.{nodeCount, sizeAt, parentAt, rootAt, levelAt, badContents}
-use Rattle.navigate.specs.Navigate.{endOf}
+use Rattle.spans.specs.Spans.{endOf}
 use Rattle.index_check.specs.IndexCheck.{contains, zerosRight, checkRight, sizeRight, endRight, levelRight, rootRight, rankRight, accepts}
 use Rattle.index_check.specs.RankLaws.{Right, right, contains-yes, contains-out, parent-below, parent-largest}
 

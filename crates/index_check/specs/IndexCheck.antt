@@ -6,7 +6,7 @@ use lib.ListN.{getD, take, drop}
 use lib.Dec.{ltb, leb, eqb}
 use Rattle.lists.specs.Lists.{allTo, largestTo}
 use Rattle.image.specs.Layout.{nodeCount, sizeAt, parentAt, rootAt, wordAt, levelAt, checked, badContents}
-use Rattle.navigate.specs.Navigate.{endOf}
+use Rattle.spans.specs.Spans.{endOf}
 
 -- the interval of rank r, which is the ranks r to r + size − 1, contains rank k
 abbrev pub contains : List ℕ → ℕ → ℕ → Bool

@@ -16,9 +16,11 @@ use Rattle.lists.specs.MemberLaws.{filter-in, filter-out, filter-all, numbers-i
 use Rattle.lists.specs.RangeLaws.{limits-negate}
 use Rattle.lists.specs.SignedLaws.{mag-sub}
 use Rattle.image.specs.Layout.{nodeCount, sizeAt, parentAt, rootAt, levelAt}
-use Rattle.navigate.specs.Navigate.{badRank, badSpan, endOf, spanRefusal, within, distance, descendantList}
-use Rattle.navigate.specs.Climb.{chain, badClimb, climbRefusal, ancestorList, ancestorsAnswer}
-use Rattle.navigate.specs.ClimbLaws.{chain-step, chain-done, stuck-step, stuck-done}
+use Rattle.spans.specs.Spans.{badRank, badSpan, endOf, spanRefusal}
+use Rattle.rank_filter.specs.Distances.{within, distance}
+use Rattle.navigate.specs.Navigate.{descendantList}
+use Rattle.climb.specs.Climb.{chain, badClimb, climbRefusal, ancestorList, ancestorsAnswer}
+use Rattle.climb.specs.ClimbLaws.{chain-step, chain-done, stuck-step, stuck-done}
 use Rattle.index_check.specs.IndexCheck.{contains, accepts}
 use Rattle.index_check.specs.RankLaws.{contains-yes, contains-out, parent-largest}
 use Rattle.index_check.specs.CheckLaws.{Nested, accepted-good, accepted-rank, accepted-size, accepted-parent, accepted-end, nested-in-parent, level-of-root, level-of-child, root-of-root, root-of-child}

@@ -167,7 +167,7 @@ fn ancestors() {
         &mut totals,
     );
     let mut out = [0u32; 9];
-    let found = navigate::ancestors(&index, 5, -4, 0, &mut out);
+    let found = climb::ancestors(&index, 5, -4, 0, &mut out);
     say(b"M7 ancestors of 5 at distances -4 to 0: refusal");
     number(found.refusal);
     say(b", ranks");

@@ -7,7 +7,8 @@ use lib.ListN.{replicate}
 use Rattle.lists.specs.Lists.{front}
 use Rattle.image.specs.Layout.{bodyWords, flat, checked, contentsWords, imageWords, badContents}
 use Rattle.image.specs.Sample.{listing}
-use Rattle.navigate.specs.Navigate.{badRank, badSpan, spanPart, descendantList, siblingList, descendantsAnswer, siblingsAnswer, siblingsOut}
+use Rattle.spans.specs.Spans.{badRank, badSpan, spanPart}
+use Rattle.navigate.specs.Navigate.{descendantList, siblingList, descendantsAnswer, siblingsAnswer, siblingsOut}
 
 -- over the words of an index, with slices of nine zeros lent
 pub record NavigationCases (s : List ℕ) : Type 0 where

@@ -1,45 +1,16 @@
--- Paper 01, "Navigation": what span, descendants and siblings answer, and what they leave in the lent slice. Assumes nothing: these are definitions.
-use Prim.Native.Nat.{ℕ, _+_, _*_, _-_}
-use mathlib.Core.List.{List, []}
-use mathlib.Core.Bool.{Bool, cond, _||_, _&&_}
-use lib.ListN.{length, take, drop}
+-- Paper 01, "Navigation": what descendants and siblings answer, and what they leave in the lent slice. Assumes nothing: these are definitions.
+use Prim.Native.Nat.{ℕ}
+use mathlib.Core.List.{List}
+use mathlib.Core.Bool.{cond}
+use lib.ListN.{length}
 use lib.Dec.{ltb, eqb}
-use lib.IntN.{ℤ, pos, _-ℤ_}
-use lib.Signed.{leZ}
+use lib.IntN.{ℤ}
 use Rattle.lists.specs.Lists.{filter, numbers, front}
 use Rattle.lists.specs.Choice.{firstOf}
-use Rattle.image.specs.Layout.{nodeCount, bodyAt, sizeAt, parentAt, levelAt, badContents}
+use Rattle.image.specs.Layout.{nodeCount, sizeAt, parentAt}
 use Rattle.navigate.specs.declared.Listed.{Listed}
-
--- refusal 14: the rank is 0 or above n
-unfoldable pub badRank : List ℕ → ℕ → Bool
-badRank s rank = eqb rank 0 || ltb (nodeCount s) rank
-
--- the last rank of a node's span
-abbrev pub endOf : List ℕ → ℕ → ℕ
-endOf s rank = rank + sizeAt s rank - 1
-
--- refusal 15 of a span: the node has size 0 or an end above n
-unfoldable pub badSpan : List ℕ → ℕ → Bool
-badSpan s rank = eqb (sizeAt s rank) 0 || ltb (nodeCount s) (endOf s rank)
-
-abbrev pub rankRefusal : List ℕ → ℕ → ℕ
-rankRefusal s rank = cond (badContents s) 13 (cond (badRank s rank) 14 0)
-
-abbrev pub spanRefusal : List ℕ → ℕ → ℕ
-spanRefusal s rank = cond (badContents s) 13 (cond (badRank s rank) 14 (cond (badSpan s rank) 15 0))
-
--- span: the bodies of ranks r to r + size - 1; no words where it is refused
-abbrev pub spanPart : List ℕ → ℕ → List ℕ
-spanPart s rank = cond (eqb (spanRefusal s rank) 0) (take (6 * sizeAt s rank) (drop (bodyAt rank) s)) []
-
--- both limits are included
-abbrev pub within : ℤ → ℤ → ℤ → Bool
-within lo hi distance = leZ lo distance && leZ distance hi
-
--- distance: the listed node's level less that of the rank given
-abbrev pub distance : List ℕ → ℕ → ℕ → ℤ
-distance s rank k = pos (levelAt s k) -ℤ pos (levelAt s rank)
+use Rattle.spans.specs.Spans.{rankRefusal, spanRefusal}
+use Rattle.rank_filter.specs.Distances.{within, distance}
 
 -- descendants: ranks of the span within the limits, rising
 unfoldable pub descendantList : List ℕ → ℕ → ℤ → ℤ → List ℕ

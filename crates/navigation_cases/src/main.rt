@@ -87,7 +87,7 @@ fn ancestors(index: &[u32], rank: u32, lo: i32, hi: i32, from: usize) {
     if all.len() < from {
         return;
     }
-    let found = navigate::ancestors(index, rank, lo, hi, &mut all[from..]);
+    let found = climb::ancestors(index, rank, lo, hi, &mut all[from..]);
     limits(b"ancestors of ", rank, lo, hi);
     refused(found.refusal);
     say(b" length ");
@@ -117,9 +117,9 @@ fn siblings(index: &[u32], rank: u32, from: usize) {
 fn span(index: &[u32], rank: u32) {
     say(b"span of ");
     word(rank);
-    refused(navigate::span_refusal(index, rank));
+    refused(spans::span_refusal(index, rank));
     say(b" words");
-    words(navigate::span(index, rank));
+    words(spans::span(index, rank));
 }
 
 fn subtree_sum(index: &[u32], totals: &[i64], rank: u32) {

@@ -6,8 +6,8 @@ use lib.IntN.{ℤ, pos}
 use Rattle.image.specs.Layout.{bodyWords, flat, checked, contentsWords, imageWords, badContents}
 use Rattle.image.specs.Sample.{listing}
 use Rattle.image.specs.SampleCases.{listingTotals}
-use Rattle.navigate.specs.Navigate.{badRank, badSpan}
-use Rattle.navigate.specs.Climb.{climbFrom, stuckFrom}
+use Rattle.spans.specs.Spans.{badRank, badSpan}
+use Rattle.climb.specs.Climb.{climbFrom, stuckFrom}
 use Rattle.sums.specs.Sums.{beyond, leaves32, badTotals, subtreeAnswer, pathAnswer}
 
 -- over the words of an index and its totals

@@ -18,8 +18,8 @@ use Rattle.image.specs.Layout.{nodeCount}
 use Rattle.image.specs.ImageLaws.{node-count-read, contents-hold, size-read}
 use Rattle.image.specs.ImageLayer.{HoldsImage}
 use Rattle.image.specs.declared.Body.{Body}
-use Rattle.navigate.specs.Navigate.{endOf, spanRefusal}
-use Rattle.navigate.specs.HeldLaws.{nth, Sized, noRank, span-held}
+use Rattle.spans.specs.Spans.{endOf, spanRefusal}
+use Rattle.spans.specs.HeldLaws.{nth, Sized, noRank, span-held}
 use Rattle.sums.specs.Sums.{totalAt, fewTotals, totalsRefusal, beyond, sumAnswer, spanSum, subtreeAnswer}
 
 -- the totals t begin with the running totals of f over l

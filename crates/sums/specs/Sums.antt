@@ -9,8 +9,8 @@ use lib.Signed.{ltZ}
 use Rattle.lists.specs.Lists.{any, sum}
 use Rattle.lists.specs.Choice.{firstOf}
 use Rattle.image.specs.Layout.{nodeCount, contentsRefusal}
-use Rattle.navigate.specs.Navigate.{endOf, rankRefusal, spanRefusal}
-use Rattle.navigate.specs.Climb.{chain, badClimb}
+use Rattle.spans.specs.Spans.{endOf, rankRefusal, spanRefusal}
+use Rattle.climb.specs.Climb.{chain, badClimb}
 use Rattle.sums.specs.declared.Summed.{Summed}
 
 abbrev pub totalAt : List ℤ → ℕ → ℤ

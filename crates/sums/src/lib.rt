@@ -69,7 +69,7 @@ pub fn subtree_sum(index: &[u32], totals: &[i64], rank: u32) -> Summed
     if refusal != 0 {
         return Summed { refusal, sum: 0 };
     }
-    let spanned = navigate::span_refusal(index, rank);
+    let spanned = spans::span_refusal(index, rank);
     if spanned != 0 {
         return Summed {
             refusal: spanned,
@@ -151,7 +151,7 @@ pub fn path_sum(index: &[u32], totals: &[i64], rank: u32) -> Summed
     if refusal != 0 {
         return Summed { refusal, sum: 0 };
     }
-    let ranked = navigate::rank_refusal(index, rank);
+    let ranked = spans::rank_refusal(index, rank);
     if ranked != 0 {
         return Summed {
             refusal: ranked,

@@ -6,12 +6,12 @@ use mir.Val.{toZ, ofZ}
 use mir.Facts.{toZ-ofZ}
 use denote.Ref.{now}
 use borrow.Author.Needs.{needs}
-use Rattle.navigate.specs.Climb.{ancestorsAnswer, ancestorsOut}
+use Rattle.climb.specs.Climb.{ancestorsAnswer, ancestorsOut}
 use Rattle.flowpewter.proofs.flowpewter_ancestors.Statement.{statement}
 use Rattle.flowpewter.proofs.flowpewter_ancestors.Tie as tie
 use Rattle.flowpewter.proofs.flowpewter_ancestors.Reads as reads
 use Rattle.flowpewter.proofs.flowpewter_ancestors.Lts as lts
-use Rattle.navigate.proofs.ancestors.Reads as ancestors-reads
+use Rattle.climb.proofs.ancestors.Reads as ancestors-reads
 
 ancestors-requires : tie.Need-ancestors-requires
 ancestors-requires c κs = search needs

@@ -3,7 +3,7 @@ use mathlib.Core.Path.{_≡_, sym, _∙_}
 use denote.Ref.{now}
 use borrow.Author.Needs.{needs}
 use borrow.Author.Tests.{eq-eqb, ne-eqb}
-use Rattle.navigate.specs.Navigate.{spanRefusal}
+use Rattle.spans.specs.Spans.{spanRefusal}
 use Rattle.flowpewter.specs.Spans.{spanOf}
 use Rattle.flowpewter.proofs.flowpewter_span.Statement.{statement}
 use Rattle.flowpewter.proofs.flowpewter_span.Tie as tie
@@ -11,7 +11,7 @@ use Rattle.flowpewter.proofs.flowpewter_span.Reads as reads
 use Rattle.flowpewter.proofs.flowpewter_span.Lts as lts
 use Rattle.image.proofs.body_at.Reads as body-at-reads
 use Rattle.image.proofs.size_at.Reads as size-at-reads
-use Rattle.navigate.proofs.span_refusal.Reads as span-refusal-reads
+use Rattle.spans.proofs.span_refusal.Reads as span-refusal-reads
 
 none : (c : tie.Else1) → spanRefusal (now (c .before .before .before .args .index)) (c .before .before .before .args .rank) ≡ 0
 none c = sym (c .before .span-refusal .ensures) ∙ c .if1 .left

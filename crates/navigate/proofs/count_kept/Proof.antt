@@ -9,12 +9,12 @@ use denote.Ref.{now}
 use borrow.Author.Needs.{needs}
 use Rattle.lists.specs.Lists.{filter, numbers}
 use Rattle.lists.specs.ChoiceLaws.{count-yes, count-no, count-le}
-use Rattle.navigate.specs.NavigateLayer.{keepsAt}
+use Rattle.rank_filter.specs.KeepLayer.{keepsAt}
 use Rattle.navigate.proofs.count_kept.Statement.{statement}
 use Rattle.navigate.proofs.count_kept.Tie as tie
 use Rattle.navigate.proofs.count_kept.Reads as reads
 use Rattle.navigate.proofs.count_kept.Lts as lts
-use Rattle.navigate.proofs.keeps.Reads as keeps-reads
+use Rattle.rank_filter.proofs.keeps.Reads as keeps-reads
 
 abbrev Inv-loop : tie.InvT-loop
 Inv-loop index r size keep n₀ i₀ n i = (i ≤ size) × (n ≡ length (filter (keepsAt index keep) (numbers r i)))

@@ -6,20 +6,22 @@ use mathlib.Core.Path.{_≡_, sym, ap, _∙_}
 use borrow.Author.Needs.{needs}
 use Rattle.lists.specs.Lists.{filter, numbers}
 use Rattle.image.specs.declared.Body.{Body}
-use Rattle.navigate.specs.Navigate.{spanRefusal, within, distance, descendantList, listAnswer, listOut}
-use Rattle.navigate.specs.NavigateLaws.{Span, span}
-use Rattle.navigate.specs.NavigateLayer.{keepsAt}
+use Rattle.spans.specs.Spans.{spanRefusal}
+use Rattle.rank_filter.specs.Distances.{within, distance}
+use Rattle.navigate.specs.Navigate.{descendantList, listAnswer, listOut}
+use Rattle.spans.specs.UnrefusedLaws.{Span, span}
+use Rattle.rank_filter.specs.KeepLayer.{keepsAt}
 use Rattle.navigate.specs.declared.Listed.{Listed}
-use Rattle.navigate.specs.declared.Keep.{Keep}
+use Rattle.rank_filter.specs.declared.Keep.{Keep}
 use Rattle.navigate.proofs.Lists.{list-refused}
-use Rattle.navigate.proofs.Distances.{within-eq}
+use Rattle.rank_filter.proofs.Distances.{within-eq}
 use Rattle.navigate.proofs.descendants.Statement.{statement}
 use Rattle.navigate.proofs.descendants.Tie as tie
 use Rattle.navigate.proofs.descendants.Reads as reads
 use Rattle.navigate.proofs.descendants.Lts as lts
 use Rattle.image.proofs.body_of.Reads as body-of-reads
 use Rattle.navigate.proofs.list_kept.Reads as list-kept-reads
-use Rattle.navigate.proofs.span_refusal.Reads as span-refusal-reads
+use Rattle.spans.proofs.span_refusal.Reads as span-refusal-reads
 
 abbrev refused : ℕ → Listed
 refused q = record { refusal = q; len = 0 }

@@ -3,7 +3,7 @@ use denote.Ref.{now}
 use native.Mathlib.Omega.{arith}
 use borrow.Author.Needs.{needs}
 use Rattle.lists.specs.Lists.{filter, numbers}
-use Rattle.navigate.specs.NavigateLayer.{keepsAt}
+use Rattle.rank_filter.specs.KeepLayer.{keepsAt}
 use Rattle.navigate.proofs.Lists.{list-long, list-fits}
 use Rattle.navigate.proofs.list_kept.Statement.{statement}
 use Rattle.navigate.proofs.list_kept.Tie as tie

@@ -8,8 +8,9 @@ use borrow.Author.Needs.{needs}
 use Rattle.lists.specs.Lists.{filter, numbers}
 use Rattle.image.specs.Layout.{nodeCount, parentAt}
 use Rattle.image.specs.declared.Body.{Body}
-use Rattle.navigate.specs.Navigate.{rankRefusal, siblingList, listAnswer, listOut}
-use Rattle.navigate.specs.NavigateLaws.{Ranked, ranked}
+use Rattle.spans.specs.Spans.{rankRefusal}
+use Rattle.navigate.specs.Navigate.{siblingList, listAnswer, listOut}
+use Rattle.spans.specs.UnrefusedLaws.{Ranked, ranked}
 use Rattle.navigate.specs.declared.Listed.{Listed}
 use Rattle.navigate.proofs.Lists.{list-refused}
 use Rattle.navigate.proofs.siblings.Statement.{statement}
@@ -18,7 +19,7 @@ use Rattle.navigate.proofs.siblings.Reads as reads
 use Rattle.navigate.proofs.siblings.Lts as lts
 use Rattle.image.proofs.body_of.Reads as body-of-reads
 use Rattle.navigate.proofs.list_kept.Reads as list-kept-reads
-use Rattle.navigate.proofs.rank_refusal.Reads as rank-refusal-reads
+use Rattle.spans.proofs.rank_refusal.Reads as rank-refusal-reads
 
 abbrev refused : ℕ → Listed
 refused q = record { refusal = q; len = 0 }

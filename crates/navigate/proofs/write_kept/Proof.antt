@@ -11,12 +11,12 @@ use denote.Ref.{now}
 use Rattle.lists.specs.Lists.{filter, numbers, front}
 use Rattle.lists.specs.ChoiceLaws.{count-yes, count-no, count-mono, count-room, passed-yes, passed-no}
 use Rattle.lists.specs.StoreLaws.{front-push, length-front}
-use Rattle.navigate.specs.NavigateLayer.{keepsAt}
+use Rattle.rank_filter.specs.KeepLayer.{keepsAt}
 use Rattle.navigate.proofs.write_kept.Statement.{statement}
 use Rattle.navigate.proofs.write_kept.Tie as tie
 use Rattle.navigate.proofs.write_kept.Reads as reads
 use Rattle.navigate.proofs.write_kept.Lts as lts
-use Rattle.navigate.proofs.keeps.Reads as keeps-reads
+use Rattle.rank_filter.proofs.keeps.Reads as keeps-reads
 
 abbrev Inv-loop : tie.InvT-loop
 Inv-loop index r size keep out₀ n₀ i₀ out n i = (i ≤ size) × (n ≡ length (filter (keepsAt index keep) (numbers r i))) × (out ≡ front (filter (keepsAt index keep) (numbers r i)) out₀)

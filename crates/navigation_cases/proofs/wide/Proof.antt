@@ -1,6 +1,6 @@
 -- `wide` is safe and ends. Assumes nothing.
 use borrow.Author.Needs.{needs}
-use Rattle.navigate.proofs.Distances.{limit-fits}
+use Rattle.rank_filter.proofs.Distances.{limit-fits}
 use Rattle.navigation_cases.proofs.wide.Statement.{statement}
 use Rattle.navigation_cases.proofs.wide.Tie as tie
 use Rattle.navigation_cases.proofs.wide.Reads as reads

@@ -14,8 +14,8 @@ use borrow.Author.Needs.{needs}
 use Rattle.lists.specs.Lists.{any, sum}
 use Rattle.image.specs.Layout.{parentAt}
 use Rattle.image.specs.declared.Body.{Body}
-use Rattle.navigate.specs.Climb.{chain, badClimb}
-use Rattle.navigate.specs.ClimbLaws.{chain-step, stuck-step, stuck-bad, chain-done, stuck-done}
+use Rattle.climb.specs.Climb.{chain, badClimb}
+use Rattle.climb.specs.ClimbLaws.{chain-step, stuck-step, stuck-bad, chain-done, stuck-done}
 use Rattle.sums.specs.Sums.{totalAt, ownMinutes, badTotals, badOwn}
 use Rattle.sums.specs.SumsLayer.{found}
 use Rattle.sums.proofs.Answers.{found-first, found-second, found-sum, found-refused, found-fine}

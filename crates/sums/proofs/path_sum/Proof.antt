@@ -7,8 +7,8 @@ use mathlib.Core.Path.{_≡_, sym, _∙_}
 use borrow.Author.Needs.{needs}
 use mathlib.Core.Bool.{cond}
 use Rattle.image.specs.Layout.{nodeCount}
-use Rattle.navigate.specs.Navigate.{rankRefusal}
-use Rattle.navigate.specs.NavigateLaws.{Ranked, ranked}
+use Rattle.spans.specs.Spans.{rankRefusal}
+use Rattle.spans.specs.UnrefusedLaws.{Ranked, ranked}
 use Rattle.sums.specs.Sums.{totalsRefusal, badPath, pathSum}
 use Rattle.sums.proofs.Answers.{sum-first, sum-second, sum-last, enough}
 use Rattle.sums.proofs.path_sum.Statement.{statement}
@@ -16,7 +16,7 @@ use Rattle.sums.proofs.path_sum.Tie as tie
 use Rattle.sums.proofs.path_sum.Reads as reads
 use Rattle.sums.proofs.path_sum.Lts as lts
 use Rattle.sums.proofs.climb_sum.Reads as climb-sum-reads
-use Rattle.navigate.proofs.rank_refusal.Reads as rank-refusal-reads
+use Rattle.spans.proofs.rank_refusal.Reads as rank-refusal-reads
 use Rattle.sums.proofs.totals_refusal.Reads as totals-refusal-reads
 
 zero : (c : tie.Else1) → totalsRefusal (now (c .before .before .before .args .index)) (now (c .before .before .before .args .totals)) ≡ 0

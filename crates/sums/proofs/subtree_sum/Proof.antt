@@ -11,8 +11,8 @@ use borrow.Author.Needs.{needs}
 use mathlib.Core.Bool.{cond, _||_}
 use Rattle.image.specs.Layout.{nodeCount, sizeAt}
 use Rattle.image.specs.declared.Body.{Body}
-use Rattle.navigate.specs.Navigate.{endOf, spanRefusal}
-use Rattle.navigate.specs.NavigateLaws.{Span, span}
+use Rattle.spans.specs.Spans.{endOf, spanRefusal}
+use Rattle.spans.specs.UnrefusedLaws.{Span, span}
 use Rattle.sums.specs.Sums.{totalAt, totalsRefusal, beyond}
 use Rattle.sums.specs.SumsLayer.{found}
 use Rattle.sums.proofs.Answers.{sum-first, sum-second, sum-last, enough}
@@ -21,7 +21,7 @@ use Rattle.sums.proofs.subtree_sum.Tie as tie
 use Rattle.sums.proofs.subtree_sum.Reads as reads
 use Rattle.sums.proofs.subtree_sum.Lts as lts
 use Rattle.image.proofs.body_of.Reads as body-of-reads
-use Rattle.navigate.proofs.span_refusal.Reads as span-refusal-reads
+use Rattle.spans.proofs.span_refusal.Reads as span-refusal-reads
 use Rattle.sums.proofs.difference.Reads as difference-reads
 use Rattle.sums.proofs.totals_refusal.Reads as totals-refusal-reads
 

@@ -1,0 +1,86 @@
+-- Laws of the climb: one step, its end, its length; the fuel does not matter. Assumes nothing.
+use mathlib.Core.Path.{_≡_, refl, sym, ap, _∙_}
+use mathlib.Core.Bool.{Bool, true, false, cond}
+use mathlib.Core.List.{List, [], _∷_}
+use Prim.Native.Nat.{ℕ, zero, suc, _≤_, _<_}
+use native.Mathlib.Omega.{arith}
+use lib.ListN.{length}
+use lib.Dec.{ltb, eqb}
+use borrow.Author.Tests.{ltb-true, ltb-false, lt-ltb, le-ltb, eq-eqb, ne-eqb}
+use Rattle.image.specs.Layout.{parentAt}
+use Rattle.climb.specs.Climb.{climbFrom, stuckFrom, chain, badClimb}
+
+cond-same {ℓ} : {A : Type ℓ} (t : Bool) (a b d : A) → (t ≡ true → a ≡ b) → cond t a d ≡ cond t b d
+cond-same true a b d h = h refl
+cond-same false a b d h = refl
+
+cond-le : (t : Bool) (a b : List ℕ) (n : ℕ) → length a ≤ n → length b ≤ n → length (cond t a b) ≤ n
+cond-le true a b n h k = h
+cond-le false a b n h k = k
+
+module _ (s : List ℕ) where
+  climb-fuel : (f g k : ℕ) → k ≤ f → k ≤ g → climbFrom s f k ≡ climbFrom s g k
+  unfolding climbFrom
+  climb-fuel zero zero k h h' = refl
+  climb-fuel zero (suc g) k h h' = simp (eq-eqb k 0 (omega arith))
+  climb-fuel (suc f) zero k h h' = simp (eq-eqb k 0 (omega arith))
+  climb-fuel (suc f) (suc g) k h h' =
+      ap (λ (l : List ℕ). cond (eqb k 0) [] (k ∷ l))
+      (cond-same (ltb (parentAt s k) k) _ _ [] (λ e. climb-fuel f g (parentAt s k) (omega (arith, ltb-true (parentAt s k) k e)) (omega (arith, ltb-true (parentAt s k) k e))))
+
+  stuck-fuel : (f g k : ℕ) → k ≤ f → k ≤ g → stuckFrom s f k ≡ stuckFrom s g k
+  unfolding stuckFrom
+  stuck-fuel zero zero k h h' = refl
+  stuck-fuel zero (suc g) k h h' = simp (eq-eqb k 0 (omega arith))
+  stuck-fuel (suc f) zero k h h' = simp (eq-eqb k 0 (omega arith))
+  stuck-fuel (suc f) (suc g) k h h' =
+      ap (λ (l : Bool). cond (eqb k 0) false l)
+      (cond-same (ltb (parentAt s k) k) _ _ true (λ e. stuck-fuel f g (parentAt s k) (omega (arith, ltb-true (parentAt s k) k e)) (omega (arith, ltb-true (parentAt s k) k e))))
+
+  pub chain-step : (k : ℕ) → 0 < k → parentAt s k < k → chain s k ≡ k ∷ chain s (parentAt s k)
+  unfolding climbFrom
+  chain-step zero h p = absurd (omega arith)
+  chain-step (suc k) h p =
+      simp (ne-eqb (suc k) 0 (λ e. omega arith), lt-ltb (parentAt s (suc k)) (suc k) p)
+      (ap (λ (l : List ℕ). suc k ∷ l) (climb-fuel k (parentAt s (suc k)) (parentAt s (suc k)) (omega arith) (omega arith)))
+
+  pub stuck-step : (k : ℕ) → 0 < k → parentAt s k < k → badClimb s k ≡ badClimb s (parentAt s k)
+  unfolding stuckFrom
+  stuck-step zero h p = absurd (omega arith)
+  stuck-step (suc k) h p =
+      simp (ne-eqb (suc k) 0 (λ e. omega arith), lt-ltb (parentAt s (suc k)) (suc k) p)
+      (stuck-fuel k (parentAt s (suc k)) (parentAt s (suc k)) (omega arith) (omega arith))
+
+  pub stuck-bad : (k : ℕ) → 0 < k → k ≤ parentAt s k → badClimb s k ≡ true
+  unfolding stuckFrom
+  stuck-bad zero h p = absurd (omega arith)
+  stuck-bad (suc k) h p = simp (ne-eqb (suc k) 0 (λ e. omega arith), le-ltb (parentAt s (suc k)) (suc k) p)
+
+  -- a climb that is not stuck goes to a lower rank
+  pub goes-down : (k : ℕ) → 0 < k → badClimb s k ≡ false → parentAt s k < k
+  goes-down k h e = below (ltb (parentAt s k) k) refl
+    where
+      below : (t : Bool) → ltb (parentAt s k) k ≡ t → parentAt s k < k
+      below true q = ltb-true _ _ q
+      below false q = let z : _≡_ {A = Bool} true false = sym (stuck-bad k h (ltb-false _ _ q)) ∙ e in let y : _≡_ {A = ℕ} 0 1 = cc in absurd (omega arith)
+
+  -- at rank 0 the climb ends
+  pub chain-done : (k : ℕ) → k ≤ 0 → chain s k ≡ []
+  unfolding climbFrom
+  chain-done zero h = refl
+  chain-done (suc k) h = absurd (omega arith)
+
+  pub stuck-done : (k : ℕ) → k ≤ 0 → badClimb s k ≡ false
+  unfolding stuckFrom
+  stuck-done zero h = refl
+  stuck-done (suc k) h = absurd (omega arith)
+
+  climb-le : (f k : ℕ) → length (climbFrom s f k) ≤ f
+  unfolding climbFrom
+  climb-le zero k = omega arith
+  climb-le (suc f) k =
+      cond-le (eqb k 0) [] _ (suc f) (omega arith)
+      (omega (arith, cond-le (ltb (parentAt s k) k) (climbFrom s f (parentAt s k)) [] f (climb-le f (parentAt s k)) (omega arith)))
+
+  pub chain-le : (k : ℕ) → length (chain s k) ≤ k
+  chain-le k = climb-le k k
