@@ -1,79 +1,31 @@
--- The build of a levelled list as a whole: its blank lines, its refusals, what it answers and leaves. Assumes nothing.
-use mathlib.Core.Path.{_≡_, refl, sym, ap, ap₂, subst, _∙_}
-use mathlib.Core.Logic.{_⊎_, inl, inr, ⊎-elim, _≢_}
+-- The build of a levelled list as a whole: its refusals, what it answers and leaves. Assumes nothing.
+use mathlib.Core.Path.{_≡_, refl, sym, ap, ap₂, _∙_}
+use mathlib.Core.Logic.{_≢_}
 use mathlib.Core.Bool.{Bool, true, false, cond, not, _||_}
-use mathlib.Core.List.{List, [], map, _∷_}
+use mathlib.Core.List.{List}
 use Prim.Native.Nat.{ℕ, _+_, _*_, _-_, _/_, _%_, _≤_, _<_}
-use native.Mathlib.Numerals.{add-one}
 use native.Mathlib.Omega.{arith}
-use native.Mathlib.Decide.{decLt}
-use lib.Dec.{T, ltb, eqb}
+use lib.Dec.{ltb, eqb}
 use lib.IntN.{ℤ, pos}
-use lib.ListN.{length, getD, take, drop, replicate, length-map, length-replicate, drop-of-length-le}
-use lib.Seq.{sets, drop-cons, length-sets, length-take-le, take-at}
-use borrow.Author.Tests.{eq-eqb, ne-eqb, le-ltb, lt-ltb, eqb-true}
+use lib.ListN.{length, take, drop, replicate, length-replicate}
+use lib.Seq.{sets, length-sets, length-take-le, take-at}
+use borrow.Author.Tests.{eq-eqb, ne-eqb, le-ltb, lt-ltb}
 use borrow.Rule.Slice.PartMut.{midOf, putMid}
-use Rattle.lists.specs.Lists.{_∈_, keep, filter, numbers, front}
-use Rattle.lists.specs.MemberLaws.{is-true, filter-none, getD-in, place-of, increasing-at, sort-out, sort-count}
-use Rattle.lists.specs.StoreLaws.{getD-mapped, front-of, drop-sets}
+use Rattle.lists.specs.Lists.{filter, front}
+use Rattle.lists.specs.MemberLaws.{sort-count}
+use Rattle.lists.specs.StoreLaws.{front-of, drop-sets}
 use Rattle.image.specs.Layout.{flat, checked, contentsWords, imageWords}
 use Rattle.image.specs.ImageLaws.{length-flat, image-written}
 use Rattle.built.specs.declared.Built.{Built}
 use Rattle.built.specs.Room.{refusal9}
 use Rattle.built.specs.RefusedLayer.{refusedBy}
-use Rattle.levels.specs.Levelled.{isBlank, lineBefore, linesOf, sortedLines, filledColumns, levelledBodies, blankLine, nodeNumber, refusal18, refusal19, levelledRefusal, levelledBuilt, levelledIndex, levelledTotals}
-use Rattle.levels.specs.LineLayer.{cells, lineAt, linesAt, filledNumber, Ready}
-use Rattle.forest.specs.Nodes.{Before}
-use Rattle.levels.specs.LineLaws.{Cell, cell-out, Upto}
-use Rattle.levels.specs.LevelledLaws.{list-wide, list-sorted}
-use Rattle.levels.specs.CellLaws.{cells-start, filledRest, filled-yes, filled-end}
-use Rattle.levels.specs.PassLaws.{longer-number}
+use Rattle.levels.specs.Levelled.{lineBefore, linesOf, sortedLines, levelledBodies, blankLine, nodeNumber, refusal18, refusal19, levelledRefusal, levelledBuilt, levelledIndex, levelledTotals}
+use Rattle.levels.specs.LineLayer.{linesAt, Ready}
 use Rattle.built.specs.OutcomeLaws.{attempt-refused, settled-index, settled-totals}
 use Rattle.levels.specs.OutcomeLayer.{levelledOutcome}
-use Rattle.levelled.specs.WriteLayer.{ListAttempted}
-use Rattle.levelled.specs.WriteLaws.{bodies-count, few-nodes}
-
--- ---- blank lines
-
-columns-number : (l : List ℕ) → length (filledColumns l) ≡ filledNumber l
-columns-number l =
-    let e : length l - 0 ≡ length l = omega arith in
-    sym (length-map (filledColumns l) (λ k. take k l)) ∙ ap (λ n. length (map (λ k. take k l) (filter (λ k. not (isBlank (getD l (k - 1) 0))) (numbers 1 n)))) (sym e) ∙ longer-number 0 l
-
-module _ (s : List ℕ) (w a : ℕ) where
-  pub blank-start : filledRest s w a 0 ≡ filledNumber (cells s w a)
-  blank-start = ap filledNumber (cells-start s w a)
-
-  -- a filled cell
-  pub blank-no : (c x : ℕ) → filledRest s w a c ≡ filledNumber (cells s w a) → c < w → x ≡ getD s (a + c) 0 → x ≢ 0 → false ≡ blankLine (cells s w a)
-  blank-no c x e h d n = sym (ne-eqb (length (filledColumns (cells s w a))) 0 (λ z. omega (arith, z, columns-number (cells s w a), e, filled-yes s w a c x h d n)))
-
-  -- no filled cell
-  pub blank-yes : (c : ℕ) → filledRest s w a c ≡ filledNumber (cells s w a) → w ≤ c → true ≡ blankLine (cells s w a)
-  blank-yes c e h = sym (eq-eqb (length (filledColumns (cells s w a))) 0 (columns-number (cells s w a) ∙ sym e ∙ filled-end s w a c h))
-
-module _ (s : List ℕ) (w : ℕ) (order : List ℕ) where
-  -- how many of the lines from place i on are blank
-  abbrev pub blankFrom : ℕ → ℕ
-  blankFrom i = length (filter blankLine (drop i (linesAt s w order)))
-
-  next : (i number : ℕ) (b : Bool) → i < length order → number ≡ getD order i 0 → b ≡ blankLine (lineAt s w number) → blankFrom i ≡ length (keep b (getD (linesAt s w order) i []) (filter blankLine (drop (i + 1) (linesAt s w order))))
-  next i number b h e f =
-      let l : List ℕ = getD (linesAt s w order) i [] in
-      let long : length (linesAt s w order) ≡ length order = length-map order (lineAt s w) in
-      let same : l ≡ lineAt s w number = getD-mapped (lineAt s w) order i 0 [] h ∙ ap (lineAt s w) (sym e) in
-      ap (λ L. length (filter blankLine L)) (drop-cons (linesAt s w order) i [] (omega arith))
-      ∙ ap (λ n. length (keep (blankLine l) l (filter blankLine (drop n (linesAt s w order))))) (sym (add-one i))
-      ∙ ap (λ t. length (keep t l (filter blankLine (drop (i + 1) (linesAt s w order))))) (ap blankLine same ∙ sym f)
-
-  pub count-yes : (E n i number : ℕ) (b : Bool) → i < length order → number ≡ getD order i 0 → b ≡ blankLine (lineAt s w number) → b ≡ true → n + blankFrom i ≡ E → n + 1 + blankFrom (i + 1) ≡ E
-  count-yes E n i number b h e f t q = omega (arith, next i number b h e f ∙ ap (λ t. length (keep t (getD (linesAt s w order) i []) (filter blankLine (drop (i + 1) (linesAt s w order))))) t)
-
-  pub count-no : (E n i number : ℕ) (b : Bool) → i < length order → number ≡ getD order i 0 → b ≡ blankLine (lineAt s w number) → b ≡ false → n + blankFrom i ≡ E → n + blankFrom (i + 1) ≡ E
-  count-no E n i number b h e f t q = omega (arith, next i number b h e f ∙ ap (λ t. length (keep t (getD (linesAt s w order) i []) (filter blankLine (drop (i + 1) (linesAt s w order))))) t)
-
-  pub count-done : (E n i : ℕ) → length order ≤ i → n + blankFrom i ≡ E → n ≡ E
-  count-done E n i h q = let long : length (linesAt s w order) ≡ length order = length-map order (lineAt s w) in omega (arith, ap (λ L. length (filter blankLine L)) (drop-of-length-le (linesAt s w order) {i = i} (omega arith)))
+use Rattle.line_counts.specs.CountLaws.{few-nodes}
+use Rattle.line_writing.specs.WriteLaws.{bodies-count}
+use Rattle.levelled.specs.AttemptedLayer.{ListAttempted}
 
 -- ---- zeros at the front
 
@@ -135,7 +87,7 @@ module _ (s : List ℕ) (w : ℕ) (index : List ℕ) (totals : List ℤ) where
       where
         nine : refusal9 (nodeNumber s w) (length index) (length totals) ≡ false
         nine =
-            ap₂ (λ t u. t || (u || ltb (length totals) (nodeNumber s w + 1))) (le-ltb 65535 (nodeNumber s w) (omega (arith, few-nodes s w order shared ready))) (le-ltb (length index) (8 + 6 * nodeNumber s w) (omega arith))
+            ap₂ (λ t u. t || (u || ltb (length totals) (nodeNumber s w + 1))) (le-ltb 65535 (nodeNumber s w) (omega (arith, few-nodes ready))) (le-ltb (length index) (8 + 6 * nodeNumber s w) (omega arith))
             ∙ le-ltb (length totals) (nodeNumber s w + 1) (omega arith)
 
         none : levelledRefusal s w (length index) (length totals) ≡ 0
@@ -195,53 +147,3 @@ module _ (s : List ℕ) (w : ℕ) (index index′ : List ℕ) (totals totals′ 
 -- the first n of so many
 pub taken : (n m : ℕ) (xs : List ℕ) → length xs ≡ m → n ≤ m → length (take n xs) ≡ n
 taken n m xs e h = length-take-le n xs (omega arith)
-
--- ---- blank lines stand last
-
--- no line comes after one that is wholly blank
-blank-last : (l m : List ℕ) → length l ≡ length m → filledNumber l ≡ 0 → Before Cell l m → ⊥
-blank-last l [] e z b = absurd b
-blank-last [] (y ∷ m) e z b = omega arith
-blank-last (x ∷ l) (y ∷ m) e z b = go (isBlank x) refl z b (blank-last l m (omega arith))
-  where
-    go : (t : Bool) → isBlank x ≡ t → length (keep (not t) x (filter (λ c. not (isBlank c)) l)) ≡ 0 → Cell x y ⊎ ((x ≡ y) × Before Cell l m) → (filledNumber l ≡ 0 → Before Cell l m → ⊥) → ⊥
-    go false q k c rec = omega arith
-    go true q k (inl c) rec = cell-out x y c .0 (eqb-true x 0 q)
-    go true q k (inr c) rec = rec k (c .1)
-
--- where the last of sorted lines isn't blank, none is
-pub none-blank : (s : List ℕ) (w : ℕ) (order : List ℕ) (n number : ℕ) (b : Bool) → linesAt s w order ≡ sortedLines s w → n ≡ length order → 0 < n → number ≡ getD order (n - 1) 0 → b ≡ blankLine (lineAt s w number) → b ≡ false
-    → 0 ≡ length (filter blankLine (linesAt s w order))
-none-blank s w order n number b lines en some e f filled = sym (ap (λ L. length (filter blankLine L)) lines ∙ ap length (filter-none blankLine S none))
-  where
-    S : List (List ℕ)
-    S = sortedLines s w
-
-    long : length S ≡ n
-    long = sym (ap length lines) ∙ length-map order (lineAt s w) ∙ sym en
-
-    last-is : getD S (n - 1) [] ≡ lineAt s w number
-    last-is = ap (λ L. getD L (n - 1) []) (sym lines) ∙ getD-mapped (lineAt s w) order (n - 1) 0 [] (omega (arith, en)) ∙ ap (lineAt s w) (sym e)
-
-    last-filled : T (blankLine (getD S (n - 1) [])) → ⊥
-    last-filled t = subst T (ap blankLine last-is ∙ sym f ∙ filled) t
-
-    wide : (l : List ℕ) → l ∈ S → length l ≡ w
-    wide l m = list-wide s w l (sort-out lineBefore (linesOf s w) l m)
-
-    none : (l : List ℕ) → l ∈ S → T (blankLine l) → ⊥
-    none l m t = go (place-of S l [] m)
-      where
-        go : (i : ℕ) × (i < length S) × (getD S i [] ≡ l) → ⊥
-        go (i, h, d) = pick (decLt i (n - 1))
-          where
-            pick : Dec (i < n - 1) → ⊥
-            pick (no g) = let q : i ≡ n - 1 = omega (arith, long) in last-filled (subst (λ k. T (blankLine (getD S k []))) q (subst (λ x. T (blankLine x)) (sym d) t))
-            pick (yes g) = ⊎-elim
-                (λ q. last-filled (subst (λ x. T (blankLine x)) (sym d ∙ q) t))
-                (λ q. blank-last l (getD S (n - 1) []) (wide l m ∙ sym (wide (getD S (n - 1) []) (getD-in S (n - 1) [] (omega (arith, long))))) (sym (columns-number l) ∙ eqb-true (length (filledColumns l)) 0 (is-true (blankLine l) t)) (subst (λ x. Before Cell x (getD S (n - 1) [])) d q))
-                (increasing-at Upto S i (n - 1) [] (list-sorted s w) g (omega (arith, long)))
-
-pub no-lines : (s : List ℕ) (w : ℕ) (order : List ℕ) → length order ≡ 0 → 0 ≡ length (filter blankLine (linesAt s w order))
-no-lines s w [] e = refl
-no-lines s w (x ∷ order) e = absurd (omega arith)

@@ -1,3 +1,2 @@
-pub mod WriteLayer
-pub mod WriteLaws
+pub mod AttemptedLayer
 pub mod BuildLaws

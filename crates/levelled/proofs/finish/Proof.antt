@@ -5,8 +5,8 @@ use mathlib.Core.Path.{sym, ap, _∙_}
 use lib.Seq.{length-take-le}
 use lib.ListN.{take, drop}
 use Rattle.image.specs.Layout.{checked}
+use Rattle.line_counts.specs.CountLaws.{few-nodes}
 use Rattle.levelled.specs.BuildLaws.{nine-index, nine-totals, attempt-done, zeros-front}
-use Rattle.levelled.specs.WriteLaws.{few-nodes}
 use Rattle.levelled.proofs.finish.Statement.{statement}
 use Rattle.levelled.proofs.finish.Tie as tie
 use Rattle.levelled.proofs.finish.Reads as reads
@@ -15,9 +15,9 @@ use Rattle.built.proofs.refused.Reads as refused-reads
 use Rattle.image.proofs.add_words.Reads as add-words-reads
 use Rattle.image.proofs.bodies_end.Reads as bodies-end-reads
 use Rattle.image.proofs.write_contents.Reads as write-contents-reads
-use Rattle.levelled.proofs.blank_lines.Reads as blank-lines-reads
-use Rattle.levelled.proofs.count_nodes.Reads as count-nodes-reads
-use Rattle.levelled.proofs.write_lines.Reads as write-lines-reads
+use Rattle.line_counts.proofs.blank_lines.Reads as blank-lines-reads
+use Rattle.line_counts.proofs.count_nodes.Reads as count-nodes-reads
+use Rattle.line_writing.proofs.write_lines.Reads as write-lines-reads
 use Rattle.lists.proofs.clear_i64.Reads as clear-i64-reads
 
 count-nodes-requires : tie.Need-count-nodes-requires
@@ -43,7 +43,7 @@ cast-end c = search needs
 
 add-end : tie.Need-add-end
 add-end c =
-    omega (arith, c .before .before .before .before .count-nodes .ensures .0, few-nodes _ _ _ _ (c .before .before .before .before .before .before .before .before .before .before .before .pre .3))
+    omega (arith, c .before .before .before .before .count-nodes .ensures .0, few-nodes (c .before .before .before .before .before .before .before .before .before .before .before .pre .3))
 
 refused-requires-2 : tie.Need-refused-requires-2
 refused-requires-2 c κs = search needs

@@ -1,0 +1,4 @@
+pub mod CountLayer
+pub mod ReadyLaws
+pub mod CountLaws
+pub mod BlankLaws

@@ -1,0 +1,2 @@
+pub mod WriteLayer
+pub mod WriteLaws
