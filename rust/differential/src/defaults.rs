@@ -1,9 +1,10 @@
 //! Builds by default, and navigation of what they leave.
 
+use crate::baseline;
 use crate::builds::{navigate_some, same};
 use crate::edits::{board, edit};
 use crate::tally::Tally;
-use flowpewter::{build, sys, Options};
+use flowpewter::{build, sys, Board, Options};
 use generate::builds::size;
 use generate::{
     bare_board, default_case, default_case_of, holding, rows, small_boards, BuildCase, Random,
@@ -22,9 +23,21 @@ pub const FACTS: [&str; 7] = [
     "by default, an orphan with the numeral of a row that hangs from a start row",
 ];
 
-/// The build by default on both sides, into slices as the case has them; from Rust also by the options' default. Of an
-/// accepted one each row number is that of a node, and no row is left over. Answers the case with its slices as they
-/// are afterwards.
+/// The options' default.
+fn by_options(board: &Board, index: &mut [u32], totals: &mut [i64]) -> sys::Built {
+    match build(board, &Options::default(), index, totals) {
+        Ok(built) => sys::Built { refusal: 0, nodes: built.nodes, left: built.left },
+        Err(refusal) => sys::Built { refusal: refusal.number(), nodes: 0, left: 0 },
+    }
+}
+
+/// The baseline that the library is measured against.
+fn by_baseline(board: &Board, index: &mut [u32], totals: &mut [i64]) -> sys::Built {
+    baseline::build(board, 3, None, None, index, totals)
+}
+
+/// The build by default on both sides, in three ways, into slices as the case has them. Of an accepted one each row
+/// number is that of a node, and no row is left over. Answers the case with its slices as they are afterwards.
 pub fn compare(
     reference: &reference::Board,
     case: &BuildCase,
@@ -35,20 +48,14 @@ pub fn compare(
     tally.note("build_default", expected.refusal);
 
     let library = board(reference);
-    let (mut index, mut totals) = (case.index.clone(), case.totals.clone());
-    let built = sys::build_default(&library, &mut index, &mut totals);
-    same(case, expected, &after, (built.refusal, built.nodes, built.left), &index, &totals);
-
-    let (mut index, mut totals) = (case.index.clone(), case.totals.clone());
-    let answer = match build(&library, &Options::default(), &mut index, &mut totals) {
-        Ok(built) => (0, built.nodes, built.left),
-        Err(refusal) => (refusal.number(), 0, 0),
-    };
-    same(case, expected, &after, answer, &index, &totals);
-
+    for way in [sys::build_default, by_options, by_baseline] {
+        let (mut index, mut totals) = (case.index.clone(), case.totals.clone());
+        let built = way(&library, &mut index, &mut totals);
+        same(case, expected, &after, (built.refusal, built.nodes, built.left), &index, &totals);
+    }
     if expected.refusal == 0 {
         let nodes: Vec<Body> =
-            (1..=expected.nodes).map(|rank| Body::read(&index, rank as usize)).collect();
+            (1..=expected.nodes).map(|rank| Body::read(&after.index, rank as usize)).collect();
         let mut has_node = vec![false; reference.held().len() + 1];
         nodes.iter().for_each(|body| has_node[body.row as usize] = true);
         assert!(has_node[1..].iter().all(|has| *has), "a row without a node: {:?}", case.rows);
