@@ -57,6 +57,6 @@ totalsAfter b code depth start words totals =
     (front (runningTotals (withEntries (rowsOf b) start depth (orphanChoice (orphanOf code))) (nodes (rowsOf b) start depth (orphanChoice (orphanOf code)))) totals)
     (replicate (length totals) (pos 0))
 
--- "The build by default moves from code 0 to code 3, still with no depth and parent 0" (request 2.7 of paper 02): what holds of a code, a depth and a start rule, at these
+-- "The build by default moves from code 0 to code 3, still with no depth and parent 0" (request 2.7 of paper 02): whatever takes an option code, a depth and a start rule gets these
 abbrev pub byDefault {ℓ} : {A : Type ℓ} → (ℕ → Depth → (Row → Bool) → A) → A
 byDefault build = build 3 None parentZero
