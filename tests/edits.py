@@ -18,19 +18,21 @@ def faults(path):
         lines = edit.read().splitlines()
     if not lines or lines[0].startswith(("file: ", "old: ", "new: ")):
         yield "doesn't begin with a sentence"
-    source, kinds = None, collections.Counter()
+    source, kinds = "", collections.Counter()
     for line in lines[1:]:
         kind, _, text = line.partition(": ")
         kinds[kind] += 1
         if kind == "file":
-            source = f"crates/{crate}/{text}"
-            if not os.path.isfile(source):
-                yield f"{source} isn't there"
+            path = f"crates/{crate}/{text}"
+            if not os.path.isfile(path):
+                yield f"{path} isn't there"
+                return
+            with open(path, encoding="utf-8") as file:
+                source = file.read()
         elif kind == "old":
-            with open(source, encoding="utf-8") as file:
-                times = file.read().count(text)
+            times = source.count(text)
             if times != 1:
-                yield f"{source} has this {times} times: {text}"
+                yield f"the file has this {times} times: {text}"
         elif kind != "new":
             yield f"no line of an edit: {line}"
     if not kinds["file"] or not kinds["old"] or kinds["old"] != kinds["new"]:

@@ -49,7 +49,7 @@ sum-turned f h (suc n) =
 
 module _ (f : List ℕ → Bool) (W : List (List ℕ)) where
   -- the nodes that pass, found by their ranks
-  pub passing : map (nodeAt W) (filter (λ k. f (nodeAt W k)) (numbers 1 (length W))) ≡ filter f W
+  passing : map (nodeAt W) (filter (λ k. f (nodeAt W k)) (numbers 1 (length W))) ≡ filter f W
   passing = sym (filter-map f (nodeAt W) (numbers 1 (length W))) ∙ ap (filter f) (map-ranks (nodeAt W) (λ p. p) W [] (length W) refl (λ k a b. refl) ∙ map-id W)
 
   pub count-rising : length (filter (λ k. f (nodeAt W k)) (numbers 1 (length W))) ≡ length (filter f W)

@@ -1,7 +1,7 @@
 -- After the orphan paths: the rows that are not flagged are those of the islands, and what is walked of them follows the orphan paths. Assumes nothing.
 use mathlib.Core.Path.{_≡_, refl, sym, ap, ap₂, _∙_, subst}
 use mathlib.Core.Bool.{Bool, true, false, cond, not, _&&_}
-use mathlib.Core.List.{List, [], _∷_, _++_, map, append-nil}
+use mathlib.Core.List.{List, [], _++_, map, append-nil}
 use Prim.Native.Nat.{ℕ, suc, _+_, _-_, _*_, _≤_, _<_}
 use native.Mathlib.Omega.{arith}
 use native.Mathlib.Decide.{decLt}
@@ -9,7 +9,7 @@ use lib.Dec.{eqb, leb}
 use lib.ListN.{length, getD, length-append, List·getD-eq-default}
 use Rattle.lists.specs.Choice.{bit}
 use Rattle.lists.specs.Lists.{_∈_, filter, numbers}
-use Rattle.lists.specs.MemberLaws.{and-in, and-out, same-test, filter-in, filter-out, map-out, getD-in}
+use Rattle.lists.specs.MemberLaws.{and-in, and-out, same-test, filter-in, filter-out, map-out, none-in, getD-in}
 use Rattle.lists.specs.CountingLaws.{by-place, by-place-length}
 use Rattle.rows.specs.declared.Row.{Row}
 use Rattle.image.specs.declared.Body.{Body}
@@ -88,17 +88,13 @@ module _ (R : List Row) (start : Row → Bool) where
 
     -- where every row is flagged there is no island
     pub none-left : length (filter (eqb 0) flags) ≡ 0 → (x : ℕ) → x ∈ islands R start → ⊥
-    none-left none x m = empty (filter (eqb 0) flags) none (filter-in (eqb 0) flags 0 (subst (λ (y : ℕ). y ∈ flags) zero (getD-in flags (x - 1) 0 (omega (arith, o, flags-long)))) tt)
+    none-left none x m = none-in (filter (eqb 0) flags) 0 none (filter-in (eqb 0) flags 0 (subst (λ (y : ℕ). y ∈ flags) zero (getD-in flags (x - 1) 0 (omega (arith, o, flags-long)))) tt)
       where
         o : RowOf R x
         o = islands-good R start .rows x m
 
         zero : getD flags (x - 1) 0 ≡ 0
         zero = islands-flagged x o ∙ ap (λ (t : Bool). bit (not t)) (same-test (memb x (islands R start)) true (λ t. tt) (λ t. memb-in x (islands R start) m))
-
-        empty : (l : List ℕ) → length l ≡ 0 → 0 ∈ l → ⊥
-        empty [] e m = m
-        empty (y ∷ l) e m = absurd (omega arith)
 
   -- the rows of the orphan paths that were walked
   orphan-rows : (rank n : ℕ) → map (λ (b : Body). b .row) (orphansFrom R ends rank n) ≡ orphanEnds

@@ -1,11 +1,12 @@
 -- Demand 3 holds of every list of calls, and what it says of a build holds of every sound board. Assumes nothing.
 use mathlib.Core.Path.{_≡_, sym, subst}
-use lib.ListN.{length}
 use mathlib.Core.Bool.{true}
 use mathlib.Core.List.{List}
+use lib.ListN.{length}
 use Rattle.board.specs.declared.Board.{Board}
 use Rattle.rows.specs.declared.Call.{Call}
 use Rattle.board.specs.Edits.{emptyOf, rowsOf, soundOf}
+use Rattle.machine.specs.Machine.{after, start}
 use Rattle.machine.specs.Calls.{final, AllFit}
 use Rattle.machine.specs.SimulationLaws.{simulation, final-rows, final-sound}
 use Rattle.nodes.specs.Refusals.{refusalOf}
@@ -13,14 +14,13 @@ use Rattle.request.specs.Build.{buildRefusal, builtOf, byDefault}
 use Rattle.guarantee.specs.KindLaws.{sound-first}
 use Rattle.guarantee.specs.PathBuilds.{BuildOn, RowsFit}
 use Rattle.guarantee.specs.DefaultBuilds.{LeavesNone}
-use Rattle.guarantee.specs.MinutesLaws.{rows-fit}
 use Rattle.guarantee.specs.ShortestBuilds.{ShortestOn}
-use Rattle.guarantee.specs.LevelledBuildLaws.{levelled-build}
-use Rattle.guarantee.specs.ShortestBuildLaws.{shortest-on}
-use Rattle.machine.specs.Machine.{after, start}
+use Rattle.guarantee.specs.Guarantee.{SoundBuild, SoundDefault, SoundShortest, Guarantee}
+use Rattle.guarantee.specs.MinutesLaws.{rows-fit}
 use Rattle.guarantee.specs.PathBuildLaws.{sound-few, build-on}
 use Rattle.guarantee.specs.DefaultBuildLaws.{default-on}
-use Rattle.guarantee.specs.Guarantee.{SoundBuild, SoundDefault, SoundShortest, Guarantee}
+use Rattle.guarantee.specs.ShortestBuildLaws.{shortest-on}
+use Rattle.guarantee.specs.LevelledBuildLaws.{levelled-build}
 
 pub sound-build : (b : Board) → SoundBuild b
 sound-build b sound = build-on b sound (RowsFit (rowsOf b)) (λ f. f)

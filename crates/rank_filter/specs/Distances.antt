@@ -1,5 +1,5 @@
 -- Paper 01, "Navigation": distances, and the limits of a list. Assumes nothing: these are definitions.
-use Prim.Native.Nat.{ℕ, _-_}
+use Prim.Native.Nat.{ℕ}
 use mathlib.Core.List.{List}
 use mathlib.Core.Bool.{Bool, _&&_}
 use lib.IntN.{ℤ, pos, _-ℤ_}

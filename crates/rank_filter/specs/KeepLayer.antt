@@ -1,5 +1,5 @@
 -- The test by which a list keeps a rank. Assumes nothing: this is a definition.
-use Prim.Native.Nat.{ℕ, _-_}
+use Prim.Native.Nat.{ℕ}
 use mathlib.Core.List.{List}
 use mathlib.Core.Bool.{Bool}
 use lib.Dec.{eqb}

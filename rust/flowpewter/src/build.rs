@@ -21,7 +21,7 @@ pub enum Orphan {
     /// of islands do.
     Adopt = 2,
     /// Those without a parent among the rows are roots after all others, and what is below them follows; then entries of
-    /// islands are.
+    /// islands are. The default.
     #[default]
     Root = 3,
 }

@@ -4,11 +4,14 @@
 mod common;
 #[path = "common/flagged.rs"]
 mod flagged;
+#[path = "common/listing.rs"]
+mod listing;
 #[path = "common/marked.rs"]
 mod marked;
 
 use common::{accepted, image_in, refused, zeroed, Image};
 use flagged::bodies;
+use listing::LISTING;
 use marked::{board_of, MARKED};
 use reference::*;
 
@@ -56,20 +59,7 @@ fn m1_listing_by_default() {
         text +=
             &format!("{rank} {size} {parent} {level} {root} {closing} {orphan} {numeral} {sum}\n");
     }
-    assert_eq!(
-        text,
-        "rank size parent level root cycle orphan id sum
-1 8 0 1 1 0 0 10 15
-2 4 1 2 1 0 0 30 6
-3 3 2 3 1 0 0 40 2
-4 2 3 4 1 0 0 20 1
-5 1 4 5 1 1 0 40 2
-6 3 1 2 1 0 0 20 4
-7 2 6 3 1 0 0 40 1
-8 1 7 4 1 1 0 20 -1
-9 1 0 1 9 0 1 91 7
-"
-    );
+    assert_eq!(text, LISTING);
 }
 
 #[test]

@@ -1,25 +1,16 @@
 //! Every worked figure of the scope paper: the listing, M1 to M10 and the limits.
 
+#[path = "common/listing.rs"]
+mod listing;
 #[path = "common/marked.rs"]
 mod marked;
 
+use listing::LISTING;
 use marked::{board_of, MARKED};
 use reference::*;
 
 const INPUT: &[u8] =
     b"0 10 1 5\n10 20 2 3\n10 30 1 4\n20 40 1 2\n30 40 1 1\n40 20 1 -1\n90 91 1 7\n";
-
-const LISTING: &str = "rank size parent level root cycle orphan id sum
-1 8 0 1 1 0 0 10 15
-2 4 1 2 1 0 0 30 6
-3 3 2 3 1 0 0 40 2
-4 2 3 4 1 0 0 20 1
-5 1 4 5 1 1 0 40 2
-6 3 1 2 1 0 0 20 4
-7 2 6 3 1 0 0 40 1
-8 1 7 4 1 1 0 20 -1
-9 1 0 1 9 0 1 91 7
-";
 
 fn marked_machine() -> Machine {
     let mut machine = Machine::new();
