@@ -19,6 +19,7 @@ use Rattle.board.specs.declared.Board.{Board}
 use Rattle.plans.specs.declared.Plan.{Plan}
 use Rattle.rows.specs.declared.Call.{Call}
 use Rattle.rows.specs.declared.Call.the-variants.{Add, Withdraw, Remark, Undo, Redo}
+use Rattle.rows.specs.Days.{firstAfterLast}
 use Rattle.rows.specs.Journal.{carried, inverse, pushed, blank, noEntry, noRow, remarked}
 use Rattle.board.specs.Edits.{rowsOf, keptOf, undoneOf, newestOf, nextOf, soundOf, addRefusal, rowRefusal, undoRefusal, redoRefusal}
 use Rattle.plans.specs.PlanLayer.{atMost256, roomAfter, movesFor, placeNamed, entryChosen, rowChosen, changePlan, planOf, judgedPlan}
@@ -52,7 +53,7 @@ refusal-is b c = go c where
   flipped false y = refl
 
   go : (c : Call) → cond (soundOf b) (planOf c (b .count) (b .kept) (b .undone) .refusal) 1 ≡ refusalBy b c
-  go (Add r) = flipped (soundOf b) (cond (eqb (r .numeral) 0) 2 (cond (leb 1024 (b .count)) 3 0))
+  go (Add r) = flipped (soundOf b) (cond (eqb (r .numeral) 0) 2 (cond (firstAfterLast (r .days)) 20 (cond (leb 1024 (b .count)) 3 0)))
   go (Withdraw k) = flipped (soundOf b) (cond (noRow (b .count) k) 4 0)
   go (Remark k minutes) = flipped (soundOf b) (cond (noRow (b .count) k) 4 0)
   go Undo = flipped (soundOf b) (cond (eqb (b .kept) 0) 5 0)

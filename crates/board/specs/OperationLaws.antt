@@ -16,6 +16,7 @@ use Rattle.rows.specs.declared.Entry.{Entry}
 use Rattle.board.specs.declared.Board.{Board}
 use Rattle.rows.specs.declared.Call.{Call}
 use Rattle.rows.specs.declared.Call.the-variants.{Add, Withdraw, Remark, Undo, Redo}
+use Rattle.rows.specs.Days.{firstAfterLast}
 use Rattle.rows.specs.Journal.{allNumbered, carried, inverse, doable, pushed, blank, noRow, remarked}
 use Rattle.board.specs.Edits.{rowsOf, keptOf, undoneOf, newestOf, nextOf, rowAt, made, soundOf, refused, accepted, addRefusal, addOf, rowRefusal, withdrawOf, remarkOf, undoRefusal, undoOf, redoRefusal, redoOf, edit}
 use Rattle.rows.specs.SoundLayer.{canDo}
@@ -61,12 +62,14 @@ boardAfter b c = made b (carried (operation b c) (rowsOf b)) (keptAfter b c) (un
 none-sound : (b : Board) (y : ℕ) → cond (not (soundOf b)) 1 y ≡ 0 → (soundOf b ≡ true) × (y ≡ 0)
 none-sound b y e = let x = cond-none (not (soundOf b)) 1 y (omega arith) e in (not-false (soundOf b) (x .0), x .1)
 
-add-none : (b : Board) (r : Row) → addRefusal b r ≡ 0 → (soundOf b ≡ true) × (eqb (r .numeral) 0 ≡ false) × (b .count < 1024)
+pub add-none : (b : Board) (r : Row) → addRefusal b r ≡ 0 → (soundOf b ≡ true) × (eqb (r .numeral) 0 ≡ false) × (b .count < 1024)
 unfolding addRefusal
 add-none b r e =
-    let x = none-sound b (cond (eqb (r .numeral) 0) 2 (cond (leb 1024 (b .count)) 3 0)) e in
-    let y = cond-none (eqb (r .numeral) 0) 2 (cond (leb 1024 (b .count)) 3 0) (omega arith) (x .1) in
-    (x .0, y .0, leb-false 1024 (b .count) (cond-none (leb 1024 (b .count)) 3 0 (omega arith) (y .1) .0))
+    let full : ℕ = cond (leb 1024 (b .count)) 3 0 in
+    let x = none-sound b (cond (eqb (r .numeral) 0) 2 (cond (firstAfterLast (r .days)) 20 full)) e in
+    let y = cond-none (eqb (r .numeral) 0) 2 (cond (firstAfterLast (r .days)) 20 full) (omega arith) (x .1) in
+    let z = cond-none (firstAfterLast (r .days)) 20 full (omega arith) (y .1) in
+    (x .0, y .0, leb-false 1024 (b .count) (cond-none (leb 1024 (b .count)) 3 0 (omega arith) (z .1) .0))
 
 -- a row number that is there
 pub row-there : (count k : ℕ) → noRow count k ≡ false → (1 ≤ k) × (k ≤ count)

@@ -7,7 +7,9 @@ use cases::row;
 use cases::say;
 use libc::STDOUT_FILENO;
 use rows::Call;
+use rows::Days;
 use rows::Entry;
+use rows::Row;
 
 fn same_entry(a: Entry, b: Entry) -> bool {
     if a.kind != b.kind {
@@ -99,12 +101,39 @@ fn redos(start: Board, n: usize) -> AfterCalls {
     repeated(start, Call::Redo, n)
 }
 
+fn outcome(name: &[u8], before: Board, edited: Edited) {
+    say(name);
+    number(edited.refusal);
+    let after = edited.board;
+    say(b" unchanged");
+    answer(same_board(before, after));
+}
+
+fn dated(numeral: u32, first: u32, last: u32) -> Row {
+    Row {
+        parent: 0,
+        numeral: numeral,
+        order: 1,
+        minutes: -3,
+        days: Days {
+            first: first,
+            last: last,
+        },
+    }
+}
+
 fn limits() {
     let full = adds(Board::EMPTY, 1025);
     say(b"1025 adds: accepted");
     number(full.accepted);
     say(b", the last refused");
     number(full.refusal);
+    let most = full.board;
+    outcome(
+        b", one of days 6 to 5 refused",
+        most,
+        most.add(dated(7, 6, 5)),
+    );
     let some = adds(Board::EMPTY, 257);
     let back = undos(some.board, 257);
     say(b"\n257 adds, then 257 undos: accepted");
@@ -217,12 +246,48 @@ fn withdraw_undo_redo() {
     say(b"\n");
 }
 
-fn outcome(name: &[u8], before: Board, edited: Edited) {
-    say(name);
-    number(edited.refusal);
-    let after = edited.board;
-    say(b" unchanged");
-    answer(same_board(before, after));
+// A row whose first day is after its last: 20 comes after 1 and 2.
+fn without_days() {
+    let seven = cases::sample_board();
+    let mut long = seven;
+    long.count = 1025;
+    outcome(
+        b"add of days 6 to 5: to 7 rows",
+        seven,
+        seven.add(dated(7, 6, 5)),
+    );
+    outcome(b", with numeral 0", seven, seven.add(dated(0, 6, 5)));
+    outcome(b", to count 1025", long, long.add(dated(7, 6, 5)));
+    say(b"\n");
+}
+
+// Prints the days of row 8.
+fn days(board: Board) {
+    let eighth = board.rows[7];
+    let days = eighth.days;
+    number(days.first);
+    number(days.last);
+}
+
+// A row of one day keeps it when it is given new minutes, taken out, put back and added again.
+fn one_day() {
+    let seven = cases::sample_board();
+    let added = seven.add(dated(7, 5, 5));
+    let eight = added.board;
+    say(b"add of day 5 alone: refusal");
+    number(added.refusal);
+    say(b", days");
+    days(eight);
+    let remarked = eight.remark(8, 9).board;
+    say(b", after a remark");
+    days(remarked);
+    let back = remarked.withdraw(8).board.undo().board;
+    say(b", after a withdrawal and an undo");
+    days(back);
+    let again = back.undo().board.undo().board.redo().board;
+    say(b", after two undos and a redo");
+    days(again);
+    say(b"\n");
 }
 
 // What each edit answers on a board that is not sound.
@@ -315,30 +380,40 @@ fn unsound_undone() {
     unsound(b"undone remark of numeral 0", with_undone(seven, 2, 6, 0));
 }
 
-// The same calls as words: two adds, a withdrawal of row 3, a withdrawal of row 1, an undo, two redos, an undo.
+// The same calls as words: two adds, a withdrawal of row 3, a withdrawal of row 1, an undo, two redos, an undo, an add of days 6 to 5.
 fn replayed() {
-    let words: [u32; 40] = [
+    let words: [u32; 63] = [
         0,
         0,
         10,
         1,
         5,
         0,
+        4294967295,
+        0,
         10,
         20,
         2,
         4294967295,
+        5,
+        9,
         1,
         3,
         0,
         0,
         0,
+        0,
+        0,
         1,
         1,
+        0,
+        0,
         0,
         0,
         0,
         3,
+        0,
+        0,
         0,
         0,
         0,
@@ -348,7 +423,11 @@ fn replayed() {
         0,
         0,
         0,
+        0,
+        0,
         4,
+        0,
+        0,
         0,
         0,
         0,
@@ -358,16 +437,25 @@ fn replayed() {
         0,
         0,
         0,
+        0,
+        0,
+        0,
+        0,
+        7,
+        1,
+        1,
+        6,
+        5,
     ];
-    let mut refusals: [u32; 9] = [9; 9];
+    let mut refusals: [u32; 10] = [9; 10];
     let result = history::replay(&words, &mut refusals);
     let board = result.board;
     let second = board.rows[1];
-    say(b"replay of 8 calls: refusal");
+    say(b"replay of 9 calls: refusal");
     number(result.refusal);
     say(b", refusals");
     let mut i: usize = 0;
-    while i < 9 {
+    while i < 10 {
         number(refusals[i]);
         i += 1;
     }
@@ -375,6 +463,10 @@ fn replayed() {
     number(second.numeral);
     say(b", minutes below 0");
     answer(second.minutes < 0);
+    let days = second.days;
+    say(b", days");
+    number(days.first);
+    number(days.last);
     say(b"\n");
 }
 
@@ -382,6 +474,8 @@ fn main() {
     limits();
     full_tapes();
     withdraw_undo_redo();
+    without_days();
+    one_day();
     unsound_counts();
     unsound_kept();
     unsound_undone();

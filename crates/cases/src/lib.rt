@@ -91,12 +91,7 @@ pub fn answer(yes: bool) {
 }
 
 pub fn row(parent: u32, numeral: u32, order: u32, minutes: i32) -> Row {
-    Row {
-        parent: parent,
-        numeral: numeral,
-        order: order,
-        minutes: minutes,
-    }
+    rows::undated_row(parent, numeral, order, minutes)
 }
 
 // The seven rows of the listing program's board.
@@ -122,7 +117,15 @@ pub fn same_row(a: Row, b: Row) -> bool {
     if a.order != b.order {
         return false;
     }
-    a.minutes == b.minutes
+    if a.minutes != b.minutes {
+        return false;
+    }
+    let x = a.days;
+    let y = b.days;
+    if x.first != y.first {
+        return false;
+    }
+    x.last == y.last
 }
 
 // Whether the first n places hold the same rows.

@@ -1,3 +1,4 @@
 pub mod Encoding
 pub mod ReplayLaws
 pub mod EncodedLaws
+pub mod EncodingCases

@@ -65,11 +65,11 @@ next-lent words lent now i b r h en eb er =
 -- ---- refusal
 
 -- where nothing is refused there is a word for each refusal number
-pub replay-room : (words : List ℕ) (room : ℕ) → replayRefusal words room ≡ 0 → length words / 5 ≤ room
+pub replay-room : (words : List ℕ) (room : ℕ) → replayRefusal words room ≡ 0 → length words / 7 ≤ room
 unfolding replayRefusal
 replay-room words room e =
-    let n : ℕ = length words / 5 in
-    let x = cond-none (not (eqb (length words % 5) 0)) 101 (cond (not (allKnown words n)) 102 (cond (ltb room n) 103 0)) (omega arith) e .1 in
+    let n : ℕ = length words / 7 in
+    let x = cond-none (not (eqb (length words % 7) 0)) 101 (cond (not (allKnown words n)) 102 (cond (ltb room n) 103 0)) (omega arith) e .1 in
     let y = cond-none (not (allKnown words n)) 102 (cond (ltb room n) 103 0) (omega arith) x .1 in
     ltb-false room n (cond-none (ltb room n) 103 0 (omega arith) y .0)
 
@@ -82,11 +82,11 @@ replay-refused words lent r e h =
 
 pub replay-accepted : (words lent out : List ℕ) (b : Board) → replayRefusal words (length lent) ≡ 0 → b ≡ final emptyOf (decoded words)
     → out ≡ front (edits emptyOf (decoded words)) lent
-    → (_≡_ {A = Replayed} (record { refusal = 0; calls = length words / 5; board = b }) (replayedOf words (length lent))) × (out ≡ refusalsOf words lent)
+    → (_≡_ {A = Replayed} (record { refusal = 0; calls = length words / 7; board = b }) (replayedOf words (length lent))) × (out ≡ refusalsOf words lent)
 unfolding replayedOf refusalsOf
 replay-accepted words lent out b e eb eo =
     let t : eqb (replayRefusal words (length lent)) 0 ≡ true = eq-eqb (replayRefusal words (length lent)) 0 e in
-    (rw t (λ i. record { refusal = 0; calls = length words / 5; board = eb i }), rw t (eo ∙ ap (λ (l : List ℕ). front l lent) (final-refusals (decoded words))))
+    (rw t (λ i. record { refusal = 0; calls = length words / 7; board = eb i }), rw t (eo ∙ ap (λ (l : List ℕ). front l lent) (final-refusals (decoded words))))
 
 -- ---- a replay is the plain machine's
 
@@ -104,7 +104,7 @@ unfolding replayedOf refusalsOf
 replay-simulates words lent e =
     let t : eqb (replayRefusal words (length lent)) 0 ≡ true = eq-eqb (replayRefusal words (length lent)) 0 e in
     record {
-      calls = rw t (sym (length-first words (length words / 5)));
+      calls = rw t (sym (length-first words (length words / 7)));
       refusals = rw t;
       rows = rw t (final-rows (decoded words));
       kept = rw t (final-kept (decoded words));

@@ -1,4 +1,4 @@
-// Calls on a board in order, from the empty board, told by words, five to a call.
+// Calls on a board in order, from the empty board, told by words, seven to a call.
 ghost use mathlib.Core.Path.{_≡_};
 ghost use Prim.Native.Nat.{_*_, _≤_};
 ghost use lib.ListN.{length};
@@ -10,6 +10,7 @@ ghost use Rattle.machine.specs.Calls.{edits, final};
 ghost use Rattle.history.specs.Encoding.{callOf, callAt, firstCalls, allKnown, replayRefusal, replayedOf, refusalsOf};
 use board::Board;
 use rows::Call;
+use rows::Days;
 use rows::Row;
 
 // What `replay` answers: its own refusal number (101 to 103), or 0, the number of calls and the board after them.
@@ -31,8 +32,8 @@ fn signed(bits: u32) -> i32
     -1 - (below as i32)
 }
 
-fn decode(kind: u32, a: u32, b: u32, c: u32, d: u32) -> Call
-    ensures { λ r. ⌜ r ≡ callOf kind a b c d ⌝ }
+fn decode(kind: u32, a: u32, b: u32, c: u32, d: u32, e: u32, f: u32) -> Call
+    ensures { λ r. ⌜ r ≡ callOf kind a b c d e f ⌝ }
 {
     if kind == 0 {
         let row = Row {
@@ -40,6 +41,7 @@ fn decode(kind: u32, a: u32, b: u32, c: u32, d: u32) -> Call
             numeral: b,
             order: c,
             minutes: signed(d),
+            days: Days { first: e, last: f },
         };
         return Call::Add(row);
     }
@@ -57,27 +59,29 @@ fn decode(kind: u32, a: u32, b: u32, c: u32, d: u32) -> Call
 
 // Call i of the words.
 fn call_at(words: &[u32], i: usize) -> Call
-    requires { ⌜ i * 5 ≤ length (now words) ⌝ }
+    requires { ⌜ i * 7 ≤ length (now words) ⌝ }
     ensures { λ r. ⌜ r ≡ callAt (now (words .entry)) i ⌝ }
 {
-    let at = i * 5;
+    let at = i * 7;
     decode(
         lists::get(words, at),
         lists::get(words, at + 1),
         lists::get(words, at + 2),
         lists::get(words, at + 3),
         lists::get(words, at + 4),
+        lists::get(words, at + 5),
+        lists::get(words, at + 6),
     )
 }
 
 // Whether each of the first n calls has a known kind.
 fn known(words: &[u32], n: usize) -> bool
-    requires { ⌜ n * 5 ≤ length (now words) ⌝ }
+    requires { ⌜ n * 7 ≤ length (now words) ⌝ }
     ensures { λ r. ⌜ r ≡ allKnown (now (words .entry)) n ⌝ }
 {
     let mut i: usize = 0;
     while i < n {
-        if 4 < lists::get(words, i * 5) {
+        if 4 < lists::get(words, i * 7) {
             return false;
         }
         i += 1;
@@ -88,10 +92,10 @@ fn known(words: &[u32], n: usize) -> bool
 fn replay_refusal(words: &[u32], room: usize) -> u32
     ensures { λ r. ⌜ r ≡ replayRefusal (now (words .entry)) room ⌝ }
 {
-    if words.len() % 5 != 0 {
+    if words.len() % 7 != 0 {
         return 101;
     }
-    let n = words.len() / 5;
+    let n = words.len() / 7;
     if !known(words, n) {
         return 102;
     }
@@ -103,7 +107,7 @@ fn replay_refusal(words: &[u32], room: usize) -> u32
 
 // The board after the first n calls; the refusal number of each goes to the lent words.
 fn run(words: &[u32], n: usize, refusals: &mut [u32]) -> Board
-    requires { ⌜ (n * 5 ≤ length (now words)) × (n ≤ length (now refusals)) ⌝ }
+    requires { ⌜ (n * 7 ≤ length (now words)) × (n ≤ length (now refusals)) ⌝ }
     ensures { λ r. ⌜ r ≡ final emptyOf (firstCalls (now (words .entry)) n) ⌝ }
     ensures { λ _. ⌜ now (refusals .exit) ≡ front (edits emptyOf (firstCalls (now (words .entry)) n)) (now (refusals .entry)) ⌝ }
 {
@@ -131,7 +135,7 @@ pub fn replay(words: &[u32], refusals: &mut [u32]) -> Replayed
             board: Board::EMPTY,
         };
     }
-    let n = words.len() / 5;
+    let n = words.len() / 7;
     let board = run(words, n, refusals);
     Replayed {
         refusal: 0,

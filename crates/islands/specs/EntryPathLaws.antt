@@ -8,7 +8,7 @@ use native.Mathlib.Omega.{arith}
 use lib.Dec.{T, T-not, not-T, eqb, ltb, lt→ltb}
 use lib.IntN.{pos}
 use lib.ListN.{length, getD, take, length-map, List·getD-append}
-use Rattle.rows.specs.Journal.{blank}
+use Rattle.rows.specs.Journal.{blank, undated}
 use Rattle.rows.specs.declared.Row.{Row}
 use Rattle.options.specs.declared.Depth.the-variants.{None}
 use Rattle.lists.specs.Lists.{_∈_, Increasing}
@@ -41,10 +41,10 @@ module _ (R E : List Row) where
   row-after k = let e : length R + suc k ≡ suc (length R + k) = omega arith in ap (row (R ++ E)) e ∙ getD-append-right R E k blank
 
 -- the k-th of the rows made for the entries
-entry-at : (i : ℕ) (l : List ℕ) (k : ℕ) → k < length l → getD (entryRows i l) k blank ≡ record { parent = 0; numeral = getD l k 0; order = i + k; minutes = pos 0 }
+entry-at : (i : ℕ) (l : List ℕ) (k : ℕ) → k < length l → getD (entryRows i l) k blank ≡ undated 0 (getD l k 0) (i + k) (pos 0)
 entry-at i [] k h = absurd (omega arith)
-entry-at i (n ∷ l) zero h = let e : i ≡ i + 0 = omega arith in ap (λ (t : ℕ). record { parent = 0; numeral = n; order = t; minutes = pos 0 }) e
-entry-at i (n ∷ l) (suc k) h = let e : suc i + k ≡ i + suc k = omega arith in entry-at (suc i) l k (omega arith) ∙ ap (λ (t : ℕ). record { parent = 0; numeral = getD l k 0; order = t; minutes = pos 0 }) e
+entry-at i (n ∷ l) zero h = let e : i ≡ i + 0 = omega arith in ap (λ (t : ℕ). undated 0 n t (pos 0)) e
+entry-at i (n ∷ l) (suc k) h = let e : suc i + k ≡ i + suc k = omega arith in entry-at (suc i) l k (omega arith) ∙ ap (λ (t : ℕ). undated 0 (getD l k 0) t (pos 0)) e
 
 module _ (R : List Row) (es : List ℕ) where
   -- the rows of the board stay as they are
@@ -52,11 +52,11 @@ module _ (R : List Row) (es : List ℕ) where
   joined-kept = row-kept R (entryRows 1 (map (num R) es))
 
   -- the k-th entry, from 0: its numeral, parent 0, no minutes, and its place in the order made
-  pub joined-entry : (k : ℕ) → k < length es → row (joined R es) (length R + suc k) ≡ record { parent = 0; numeral = num R (getD es k 0); order = suc k; minutes = pos 0 }
+  pub joined-entry : (k : ℕ) → k < length es → row (joined R es) (length R + suc k) ≡ undated 0 (num R (getD es k 0)) (suc k) (pos 0)
   joined-entry k h =
       let o : 1 + k ≡ suc k = omega arith in
       row-after R (entryRows 1 (map (num R) es)) k ∙ entry-at 1 (map (num R) es) k (omega (arith, length-map es (num R)))
-      ∙ ap₂ (λ (n t : ℕ). record { parent = 0; numeral = n; order = t; minutes = pos 0 }) (getD-mapped (num R) es k 0 0 h) o
+      ∙ ap₂ (λ (n t : ℕ). undated 0 n t (pos 0)) (getD-mapped (num R) es k 0 0 h) o
 
   pub entry-num : (k : ℕ) → k < length es → num (joined R es) (length R + suc k) ≡ num R (getD es k 0)
   entry-num k h = ap (λ (r : Row). r .numeral) (joined-entry k h)

@@ -9,6 +9,7 @@ use lib.Dec.{leb}
 use lib.IntN.{pos}
 use lib.ListN.{length, getD}
 use Rattle.rows.specs.declared.Row.{Row}
+use Rattle.rows.specs.Journal.{undated}
 use Rattle.options.specs.declared.Depth.the-variants.{None}
 use Rattle.paths.specs.Rows.{num, par}
 use Rattle.paths.specs.Paths.{last, Unreached, OrphanPath}
@@ -40,7 +41,7 @@ pub record EntryChain (num par : ℕ → ℕ) (In : ℕ → Type 0) (e : ℕ) (p
 -- "An entry node is made with that numeral, row number 0, 0 minutes": a row for each entry, whose order is its place in the order made, from k on
 abbrev pub entryRows : ℕ → List ℕ → List Row
 entryRows k [] = []
-entryRows k (n ∷ l) = record { parent = 0; numeral = n; order = k; minutes = pos 0 } ∷ entryRows (suc k) l
+entryRows k (n ∷ l) = undated 0 n k (pos 0) ∷ entryRows (suc k) l
 
 -- the rows of the board and, after them, those of the entries; es: the rows whose numerals the entries take, in the order made
 abbrev pub joined : List Row → List ℕ → List Row

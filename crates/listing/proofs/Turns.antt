@@ -5,6 +5,7 @@ use mathlib.Core.Bool.{Bool, true, false}
 use mathlib.Core.List.{List}
 use lib.IntN.{ℤ}
 use lib.ListN.{length, drop, drop-of-length-le}
+use Rattle.rows.specs.declared.Row.{Row}
 use Rattle.board.specs.declared.Board.{Board}
 use Rattle.board.specs.declared.Edited.{Edited}
 use Rattle.board.specs.Edits.{addOf, emptyOf}
@@ -24,11 +25,11 @@ use Rattle.listing.specs.declared.Load.{Load}
 pub started : (x : Scan) (b : Board) → x ≡ fresh → b ≡ emptyOf → record { refusal = 0; bad = false; line = 1; scan = x; board = b } ≡ startOf
 started x b p q = ap₂ {C = Load} (λ (x : Scan) (b : Board). record { refusal = 0; bad = false; line = 1; scan = x; board = b }) p q
 
-pub entered : (l : Load) (e : Edited) (x : Scan) (a n o : ℕ) (m z : ℤ) → e ≡ addOf (l .board) (rowOf (values a n o z)) → z ≡ m → x ≡ fresh
+pub entered : (l : Load) (e : Edited) (x : Scan) (r : Row) (a n o : ℕ) (m z : ℤ) → e ≡ addOf (l .board) r → r ≡ rowOf (values a n o z) → z ≡ m → x ≡ fresh
     → record { refusal = e .refusal; bad = l .bad; line = l .line % 4294967296 + 1; scan = x; board = e .board } ≡ enterOf l (values a n o m)
-entered l e x a n o m z p u q =
+entered l e x r a n o m z p w u q =
     ap₂ {C = Load} (λ (e : Edited) (x : Scan). record { refusal = e .refusal; bad = l .bad; line = l .line % 4294967296 + 1; scan = x; board = e .board })
-    (p ∙ ap (λ (y : ℤ). addOf (l .board) (rowOf (values a n o y))) u) q
+    (p ∙ ap (λ (y : Row). addOf (l .board) y) (w ∙ ap (λ (y : ℤ). rowOf (values a n o y)) u)) q
 
 pub spoiled : (l : Load) (x : Scan) → x ≡ fresh → record { refusal = l .refusal; bad = true; line = l .line; scan = x; board = l .board } ≡ isBad l
 spoiled l x q = ap {B = Load} (λ (x : Scan). record { refusal = l .refusal; bad = true; line = l .line; scan = x; board = l .board }) q

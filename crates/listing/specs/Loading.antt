@@ -4,6 +4,7 @@ use mathlib.Core.Bool.{Bool, true, false, cond, not, _||_}
 use mathlib.Core.List.{List, [], _∷_}
 use lib.Dec.{eqb}
 use Rattle.rows.specs.declared.Row.{Row}
+use Rattle.rows.specs.Journal.{undated}
 use Rattle.board.specs.declared.Edited.{Edited}
 use Rattle.board.specs.Edits.{addOf, emptyOf}
 use Rattle.lines.specs.declared.Scan.{Scan}
@@ -21,8 +22,9 @@ startOf = record { refusal = 0; bad = false; line = 1; scan = fresh; board = emp
 abbrev pub stopped : Load → Bool
 stopped l = not (eqb (l .refusal) 0) || l .bad
 
+-- a line tells no days
 abbrev pub rowOf : Values → Row
-rowOf v = record { parent = v .parent; numeral = v .numeral; order = v .order; minutes = v .minutes }
+rowOf v = undated (v .parent) (v .numeral) (v .order) (v .minutes)
 
 -- the line is a row: it is added, and the next line begins. Line numbers of 2^32 and more are never reached, as a board holds 1,024 rows
 abbrev pub addedOf : Load → Edited → Load

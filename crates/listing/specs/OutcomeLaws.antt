@@ -5,17 +5,17 @@ use native.Mathlib.Nat.{mod-eq-of-lt}
 use mathlib.Core.Path.{_≡_, refl, sym, ap, ap₂, _∙_}
 use mathlib.Core.Bool.{Bool, true, false, cond, not, _||_, or-true}
 use mathlib.Core.List.{List, [], _∷_, _++_, map, append-assoc, append-nil}
-use lib.Dec.{eqb, leb}
+use lib.Dec.{eqb}
 use lib.ListN.{length, length-append, length-replicate}
 use lib.Seq.{length-take-le}
-use borrow.Author.Tests.{eq-eqb, ne-eqb, eqb-true, eqb-false, leb-false}
+use borrow.Author.Tests.{eq-eqb, ne-eqb, eqb-true, eqb-false}
 use Rattle.lists.specs.StoreLaws.{length-front, take-front}
 use Rattle.rows.specs.declared.Row.{Row}
 use Rattle.board.specs.declared.Board.{Board}
 use Rattle.board.specs.declared.Edited.{Edited}
 use Rattle.rows.specs.Journal.{blank}
-use Rattle.lists.specs.ChoiceLaws.{cond-none}
-use Rattle.board.specs.Edits.{addRefusal, addOf, emptyOf, soundOf, rowsOf, refused, accepted}
+use Rattle.board.specs.Edits.{addRefusal, addOf, emptyOf, rowsOf, refused, accepted}
+use Rattle.board.specs.OperationLaws.{add-none}
 use Rattle.lines.specs.declared.Scan.{Scan}
 use Rattle.lines.specs.declared.Step.{Step}
 use Rattle.lines.specs.declared.Step.the-variants as step
@@ -132,17 +132,10 @@ module _ (b : Board) (r : Row) (g : Sized b) where
     };
   }
 
-  not-full : addRefusal b r ≡ 0 → b .count < 1024
-  unfolding addRefusal
-  not-full z =
-      let sound = cond-none (not (soundOf b)) 1 (cond (eqb (r .numeral) 0) 2 (cond (leb 1024 (b .count)) 3 0)) (omega arith) z in
-      let numbered = cond-none (eqb (r .numeral) 0) 2 (cond (leb 1024 (b .count)) 3 0) (omega arith) (sound .1) in
-      leb-false 1024 (b .count) (cond-none (leb 1024 (b .count)) 3 0 (omega arith) (numbered .1) .0)
-
   by-refusal : (t : Bool) → eqb (addRefusal b r) 0 ≡ t
       → cond t (accepted b (record { kind = 0; at = b .count; row = r }) (rowsOf b ++ (r ∷ []))) (refused (addRefusal b r) b) .refusal ≡ 0
       → Added b r (cond t (accepted b (record { kind = 0; at = b .count; row = r }) (rowsOf b ++ (r ∷ []))) (refused (addRefusal b r) b))
-  by-refusal true e z = one-more (not-full (eqb-true (addRefusal b r) 0 e))
+  by-refusal true e z = one-more (add-none b r (eqb-true (addRefusal b r) 0 e) .2)
   by-refusal false e z = absurd (eqb-false (addRefusal b r) 0 e z)
 
   added : addOf b r .refusal ≡ 0 → Added b r (addOf b r)

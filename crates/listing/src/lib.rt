@@ -4,7 +4,6 @@ use lines::Found;
 use lines::Scan;
 use lines::Step;
 use printing::Columns;
-use rows::Row;
 ghost use mathlib.Core.Path.{_≡_};
 ghost use Rattle.lines.specs.Text.{values};
 ghost use Rattle.listing.specs.Nodes.{columnsOf};
@@ -38,12 +37,7 @@ impl Load {
         ensures { λ r. ⌜ r ≡ enterOf self (values parent numeral order minutes) ⌝ }
     {
         let board = self.board;
-        let edited = board.add(Row {
-            parent,
-            numeral,
-            order,
-            minutes,
-        });
+        let edited = board.add(rows::undated_row(parent, numeral, order, minutes));
         let added = edited.board;
         Load {
             refusal: edited.refusal,

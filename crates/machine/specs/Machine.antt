@@ -1,4 +1,4 @@
--- The plain machine: a list R of rows, a list K of earlier row lists and a list F of undone row lists, both newest first. Definitions only, in the words of "Board and its plain machine" and of change request 2.1. Assumes nothing.
+-- The plain machine: a list R of rows, a list K of earlier row lists and a list F of undone row lists, both newest first. Definitions only, in the words of "Board and its plain machine" and of change requests 2.1 and 2.8. Assumes nothing.
 use Prim.Native.Nat.{ℕ, _-_}
 use mathlib.Core.Bool.{cond}
 use mathlib.Core.List.{List, [], _∷_, _++_}
@@ -8,6 +8,7 @@ use Rattle.lists.specs.Lists.{without}
 use Rattle.rows.specs.declared.Row.{Row}
 use Rattle.rows.specs.declared.Call.{Call}
 use Rattle.rows.specs.declared.Call.the-variants.{Add, Withdraw, Remark, Undo, Redo}
+use Rattle.rows.specs.Days.{firstAfterLast}
 use Rattle.rows.specs.Journal.{blank, noRow, remarked}
 
 -- rows is R, earlier is K, later is F: "The machine gets a third list F of undone row lists, newest first, at most 256"
@@ -44,11 +45,13 @@ abbrev pub goesForward : Machine → List (List Row) → Answer
 goesForward m [] = gives 17 m
 goesForward m (rows ∷ later) = gives 0 (record { rows = rows; earlier = take 256 (m .rows ∷ m .earlier); later = later })
 
--- "Add: a row is put at the end of R", refusals 2 and 3; "Withdraw: row number k is taken out" and "Remark: row k gets new minutes", refusal 4.
+-- "Add: a row is put at the end of R", refusals 2 and 3, and 20 between them: "It refuses an added row ... whose first day is after its last, as 20, after 2";
+-- "the plain machine refuses such a row too"; "Withdraw: row number k is taken out" and "Remark: row k gets new minutes", refusal 4.
 -- "A refused call changes nothing"
 abbrev pub answer : Machine → Call → Answer
 answer m (Add r) =
-    cond (eqb (r .numeral) 0) (gives 2 m) (cond (leb 1024 (length (m .rows))) (gives 3 m) (changes m (m .rows ++ (r ∷ []))))
+    cond (eqb (r .numeral) 0) (gives 2 m)
+    (cond (firstAfterLast (r .days)) (gives 20 m) (cond (leb 1024 (length (m .rows))) (gives 3 m) (changes m (m .rows ++ (r ∷ [])))))
 answer m (Withdraw k) = cond (noRow (length (m .rows)) k) (gives 4 m) (changes m (without (m .rows) (k - 1)))
 answer m (Remark k minutes) =
     cond (noRow (length (m .rows)) k) (gives 4 m)

@@ -6,10 +6,11 @@ use lib.ListN.{length, replicate}
 use lib.IntN.{pos}
 use Rattle.rows.specs.declared.Row.{Row}
 use Rattle.rows.specs.declared.Call.the-variants.{Add, Withdraw, Remark, Undo, Redo}
+use Rattle.rows.specs.Journal.{undated}
 use Rattle.machine.specs.Machine.{Machine, answer, answers, after, start}
 
 row : ℕ → Row
-row numeral = record { parent = 0; numeral = numeral; order = 1; minutes = pos 5 }
+row numeral = undated 0 numeral 1 (pos 5)
 
 a : Row
 a = row 10
@@ -53,3 +54,36 @@ undone-most = refl
 kept-most : length (answer full Redo .machine .earlier) ≡ 256
 unfolding full
 kept-most = refl
+
+-- ---- rows with days: "the plain machine refuses such a row too"
+
+dated : ℕ → ℕ → ℕ → Row
+dated numeral first last = record { parent = 0; numeral = numeral; order = 1; minutes = pos 5; days = record { first = first; last = last } }
+
+-- 20 comes after 2 and before 3; a row of one day is taken
+dated-adds : answers start (Add (dated 30 6 5) ∷ Add (dated 0 6 5) ∷ Add (dated 30 5 5) ∷ []) ≡ (20 ∷ 2 ∷ 0 ∷ [])
+unfolding dated
+dated-adds = refl
+
+no-room : Machine
+no-room = record { rows = replicate 1024 a; earlier = []; later = [] }
+
+no-day-and-no-room : answers no-room (Add (dated 30 6 5) ∷ Add (dated 30 5 5) ∷ []) ≡ (20 ∷ 3 ∷ [])
+unfolding no-room a row dated
+no-day-and-no-room = refl
+
+no-day-changes-nothing : after start (Add (dated 30 6 5) ∷ []) ≡ start
+unfolding dated
+no-day-changes-nothing = refl
+
+remark-keeps-days : after start (Add (dated 30 5 9) ∷ Remark 1 (pos 5) ∷ []) .rows ≡ (dated 30 5 9 ∷ [])
+unfolding dated
+remark-keeps-days = refl
+
+undo-restores-days : after start (Add (dated 30 5 9) ∷ Withdraw 1 ∷ Undo ∷ []) .rows ≡ (dated 30 5 9 ∷ [])
+unfolding dated
+undo-restores-days = refl
+
+redo-restores-days : after start (Add (dated 30 5 9) ∷ Undo ∷ Redo ∷ []) .rows ≡ (dated 30 5 9 ∷ [])
+unfolding dated
+redo-restores-days = refl

@@ -17,6 +17,7 @@ use Rattle.board.specs.declared.Board.{Board}
 use Rattle.board.specs.declared.Edited.{Edited}
 use Rattle.rows.specs.declared.Call.{Call}
 use Rattle.rows.specs.declared.Call.the-variants.{Add, Withdraw, Remark, Undo, Redo}
+use Rattle.rows.specs.Days.{firstAfterLast}
 use Rattle.rows.specs.Journal.{allNumbered, carried, inverse, doable, pushed, noEntry, noRow}
 use Rattle.board.specs.Edits.{rowsOf, keptOf, undoneOf, newestOf, nextOf, made, soundOf, refused, addRefusal, rowRefusal, undoRefusal, redoRefusal, edit}
 use Rattle.board.specs.Laws.{count-rows, count-kept, count-undone, old-row}
@@ -212,14 +213,15 @@ module _ (b : Board) (v : Valid b) where
     through-left = through-more (rowsOf b) (carried (operation b c) (rowsOf b)) (inverse (operation b c) (rowsOf b)) led (undoneOf b) (stateOf b .later) (through-undone b v)
 
   -- ---- add
-  step-add : (r : Row) (t₂ t₃ : Bool) → eqb (r .numeral) 0 ≡ t₂ → leb 1024 (b .count) ≡ t₃ → Follows b (Add r)
+  step-add : (r : Row) (t₂ t₂₀ t₃ : Bool) → eqb (r .numeral) 0 ≡ t₂ → firstAfterLast (r .days) ≡ t₂₀ → leb 1024 (b .count) ≡ t₃ → Follows b (Add r)
   unfolding addRefusal
-  step-add r true t₃ q₂ q₃ = refuses (Add r) 2 (omega arith) (simp (valid-sound b v, q₂)) (simp q₂)
-  step-add r false true q₂ q₃ = refuses (Add r) 3 (omega arith) (simp (valid-sound b v, q₂, q₃)) (simp (q₂, many b v, q₃))
-  step-add r false false q₂ q₃ =
-      let e : addRefusal b r ≡ 0 = simp (valid-sound b v, q₂, q₃) in
+  step-add r true t₂₀ t₃ q₂ q₂₀ q₃ = refuses (Add r) 2 (omega arith) (simp (valid-sound b v, q₂)) (simp q₂)
+  step-add r false true t₃ q₂ q₂₀ q₃ = refuses (Add r) 20 (omega arith) (simp (valid-sound b v, q₂, q₂₀)) (simp (q₂, q₂₀))
+  step-add r false false true q₂ q₂₀ q₃ = refuses (Add r) 3 (omega arith) (simp (valid-sound b v, q₂, q₂₀, q₃)) (simp (q₂, q₂₀, many b v, q₃))
+  step-add r false false false q₂ q₂₀ q₃ =
+      let e : addRefusal b r ≡ 0 = simp (valid-sound b v, q₂, q₂₀, q₃) in
       accepts (Add r) e (take 256 (rowsOf b ∷ stateOf b .earlier)) [] (through-pushed (Add r) e) (through-none (carried (operation b (Add r)) (rowsOf b)))
-      (simp (q₂, many b v, q₃) (ap (λ (R : List Row). changes (stateOf b) R) (sym (add-rows b (v .places) (valid-sound b v) r))))
+      (simp (q₂, q₂₀, many b v, q₃) (ap (λ (R : List Row). changes (stateOf b) R) (sym (add-rows b (v .places) (valid-sound b v) r))))
 
   -- ---- withdraw and remark
   module _ (k : ℕ) where
@@ -276,7 +278,7 @@ module _ (b : Board) (v : Valid b) where
       (ap (λ (es : List Entry). goesForward (stateOf b) (listsFrom (rowsOf b) es)) h)
 
   pub step : (c : Call) → Follows b c
-  step (Add r) = step-add r (eqb (r .numeral) 0) (leb 1024 (b .count)) refl refl
+  step (Add r) = step-add r (eqb (r .numeral) 0) (firstAfterLast (r .days)) (leb 1024 (b .count)) refl refl refl
   step (Withdraw k) = step-withdraw k (noRow (b .count) k) refl
   step (Remark k m) = step-remark k m (noRow (b .count) k) refl
   step Undo = step-undo (eqb (b .kept) 0) refl

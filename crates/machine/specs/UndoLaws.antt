@@ -10,6 +10,7 @@ use Rattle.lists.specs.Lists.{without}
 use Rattle.rows.specs.declared.Row.{Row}
 use Rattle.rows.specs.declared.Call.{Call}
 use Rattle.rows.specs.declared.Call.the-variants.{Add, Withdraw, Remark, Undo, Redo}
+use Rattle.rows.specs.Days.{firstAfterLast}
 use Rattle.rows.specs.Journal.{blank, noRow, remarked}
 use Rattle.board.specs.Edits.{rowsOf, emptyOf}
 use Rattle.machine.specs.Machine.{Machine, Answer, gives, changes, answer, after, start}
@@ -33,8 +34,9 @@ module _ (P : Answer → Type 0) (m : Machine) (refused : (n : ℕ) → 0 < n �
   pub changing : (c : Call) → Changes c → P (answer m c)
   changing (Add r) d =
       let rows : List Row = m .rows ++ (r ∷ []) in
-      either (eqb (r .numeral) 0) 2 (cond (leb 1024 (length (m .rows))) (gives 3 m) (changes m rows)) (omega arith)
-      (either (leb 1024 (length (m .rows))) 3 (changes m rows) (omega arith) (changed rows))
+      let full : Answer = cond (leb 1024 (length (m .rows))) (gives 3 m) (changes m rows) in
+      either (eqb (r .numeral) 0) 2 (cond (firstAfterLast (r .days)) (gives 20 m) full) (omega arith)
+      (either (firstAfterLast (r .days)) 20 full (omega arith) (either (leb 1024 (length (m .rows))) 3 (changes m rows) (omega arith) (changed rows)))
   changing (Withdraw k) d =
       let rows : List Row = without (m .rows) (k - 1) in
       either (noRow (length (m .rows)) k) 4 (changes m rows) (omega arith) (changed rows)

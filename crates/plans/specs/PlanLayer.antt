@@ -6,6 +6,7 @@ use Rattle.rows.specs.declared.Row.{Row}
 use Rattle.rows.specs.declared.Entry.{Entry}
 use Rattle.rows.specs.declared.Call.{Call}
 use Rattle.rows.specs.declared.Call.the-variants.{Add, Withdraw, Remark, Undo, Redo}
+use Rattle.rows.specs.Days.{firstAfterLast}
 use Rattle.rows.specs.Journal.{blank, noEntry, noRow, remarked}
 use Rattle.plans.specs.declared.Plan.{Plan}
 
@@ -47,7 +48,7 @@ changePlan refusal kept remarks entry = record {
 -- what a call does on a board of so many rows, kept and undone steps
 unfoldable pub planOf : Call → ℕ → ℕ → ℕ → Plan
 planOf (Add r) count kept undone =
-    changePlan (cond (eqb (r .numeral) 0) 2 (cond (leb 1024 count) 3 0)) kept false (record { kind = 1; at = placeNamed count; row = r })
+    changePlan (cond (eqb (r .numeral) 0) 2 (cond (firstAfterLast (r .days)) 20 (cond (leb 1024 count) 3 0))) kept false (record { kind = 1; at = placeNamed count; row = r })
 planOf (Withdraw k) count kept undone = changePlan (cond (noRow count k) 4 0) kept false (record { kind = 0; at = placeNamed (k - 1); row = blank })
 planOf (Remark k minutes) count kept undone =
     changePlan (cond (noRow count k) 4 0) kept true (record { kind = 2; at = placeNamed (k - 1); row = remarked blank minutes })

@@ -4,6 +4,7 @@ ghost use mathlib.Core.Bool.{cond};
 ghost use Prim.Native.Nat.{_+_, _-_, _≤_};
 ghost use lib.Dec.{eqb, leb, ltb};
 ghost use Rattle.rows.specs.declared.Call.the-variants.{Add, Withdraw, Remark, Undo, Redo};
+ghost use Rattle.rows.specs.Days.{firstAfterLast};
 ghost use Rattle.rows.specs.Journal.{noRow};
 ghost use Rattle.rows.specs.SoundLayer.{soundBy};
 ghost use Rattle.plans.specs.PlanLayer.{atMost256, roomAfter, movesFor, placeNamed, entryChosen, rowChosen, changePlan, planOf, judgedPlan};
@@ -45,12 +46,18 @@ pub fn one_less(n: usize) -> usize
     n - 1
 }
 
-// Refusals 2 and 3.
+// Refusals 2, 20 and 3.
 fn add_refusal(count: usize, row: Row) -> u32
-    ensures { λ r. ⌜ r ≡ cond (eqb (row .numeral) 0) 2 (cond (leb 1024 count) 3 0) ⌝ }
+    ensures { λ r. ⌜ r ≡ cond (eqb (row .numeral) 0) 2 (cond (firstAfterLast (row .days)) 20 (cond (leb 1024 count) 3 0)) ⌝ }
 {
+    let days = row.days;
+    let first = days.first;
+    let last = days.last;
     if row.numeral == 0 {
         return 2;
+    }
+    if last < first {
+        return 20;
     }
     if 1024 <= count {
         return 3;

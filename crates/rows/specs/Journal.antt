@@ -11,7 +11,11 @@ use Rattle.rows.specs.declared.Entry.{Entry}
 
 -- what an unused place holds
 abbrev pub blank : Row
-blank = record { parent = 0; numeral = 0; order = 0; minutes = pos 0 }
+blank = record { parent = 0; numeral = 0; order = 0; minutes = pos 0; days = record { first = 0; last = 0 } }
+
+-- "rows entered without days get 0 and 4,294,967,295"
+abbrev pub undated : ℕ → ℕ → ℕ → ℤ → Row
+undated parent numeral order minutes = record { parent = parent; numeral = numeral; order = order; minutes = minutes; days = record { first = 0; last = 4294967295 } }
 
 abbrev pub noEntry : Entry
 noEntry = record { kind = 0; at = 0; row = blank }
@@ -55,4 +59,4 @@ noRow count k = eqb k 0 || ltb count k
 
 -- a row with other minutes
 abbrev pub remarked : Row → ℤ → Row
-remarked r m = record { parent = r .parent; numeral = r .numeral; order = r .order; minutes = m }
+remarked r m = record { parent = r .parent; numeral = r .numeral; order = r .order; minutes = m; days = r .days }

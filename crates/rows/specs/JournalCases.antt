@@ -8,10 +8,11 @@ use lib.IntN.{pos}
 use Rattle.lists.specs.Lists.{without, inserted}
 use Rattle.rows.specs.declared.Row.{Row}
 use Rattle.rows.specs.declared.Entry.{Entry}
-use Rattle.rows.specs.Journal.{noEntry, isThere, carried, inverse, doable, pushed}
+use Rattle.rows.specs.Journal.{undated, noEntry, isThere, carried, inverse, doable, pushed, remarked}
+use Rattle.rows.specs.Days.{firstAfterLast}
 
 row : ℕ → Row
-row numeral = record { parent = 0; numeral = numeral; order = 1; minutes = pos numeral }
+row numeral = undated 0 numeral 1 (pos numeral)
 
 three : List Row
 three = row 10 ∷ row 20 ∷ row 30 ∷ []
@@ -88,3 +89,41 @@ room-for-one = refl
 no-room : length (pushed (replicate 256 noEntry) (entry 1 0 10)) ≡ 256
 unfolding pushed entry row
 no-room = refl
+
+-- ---- days
+
+dated : ℕ → ℕ → Row
+dated first last = record { parent = 0; numeral = 40; order = 1; minutes = pos 7; days = record { first = first; last = last } }
+
+-- "both included": a row of one day has a day
+one-day : firstAfterLast (dated 5 5 .days) ≡ false
+unfolding dated
+one-day = refl
+
+no-day : firstAfterLast (dated 6 5 .days) ≡ true
+unfolding dated
+no-day = refl
+
+without-days : firstAfterLast (row 10 .days) ≡ false
+unfolding row
+without-days = refl
+
+remark-keeps-days : remarked (dated 5 9) (pos 8) ≡ record { parent = 0; numeral = 40; order = 1; minutes = pos 8; days = record { first = 5; last = 9 } }
+unfolding dated
+remark-keeps-days = refl
+
+-- a row taken out, put in or set is put back with its days
+of-days : List Row
+of-days = dated 5 9 ∷ dated 0 4 ∷ []
+
+out-back-with-days : carried (inverse (entry 0 1 0) of-days) (carried (entry 0 1 0) of-days) ≡ of-days
+unfolding of-days dated carried inverse entry row without inserted
+out-back-with-days = refl
+
+over-back-with-days : carried (inverse (entry 2 0 35) of-days) (carried (entry 2 0 35) of-days) ≡ of-days
+unfolding of-days dated carried inverse entry row
+over-back-with-days = refl
+
+put-again-with-days : inverse (inverse (record { kind = 1; at = 0; row = dated 5 9 }) []) (dated 5 9 ∷ []) ≡ record { kind = 1; at = 0; row = dated 5 9 }
+unfolding dated inverse
+put-again-with-days = refl

@@ -3,8 +3,15 @@ ghost use mathlib.Core.Path.{_≡_};
 ghost use mathlib.Core.Bool.{cond};
 ghost use Prim.Native.Nat.{_≤_};
 ghost use lib.Dec.{eqb};
-ghost use Rattle.rows.specs.Journal.{blank, remarked};
+ghost use Rattle.rows.specs.Journal.{blank, remarked, undated};
 ghost use Rattle.rows.specs.SoundLayer.{canDo, noneOr, soundBy};
+
+// The days from the first to the last, both included; none where the first is after the last.
+#[repr(C)]
+pub struct Days {
+    pub first: u32,
+    pub last: u32,
+}
 
 // A row of the parts list: parent 0 is none, minutes below 0 are a deduction.
 #[repr(C)]
@@ -13,6 +20,7 @@ pub struct Row {
     pub numeral: u32,
     pub order: u32,
     pub minutes: i32,
+    pub days: Days,
 }
 
 // An operation on the rows. Kind 0 takes out the row at place `at`, 1 puts `row` in at place `at`, 2 sets place `at` to `row`.
@@ -36,11 +44,29 @@ pub enum Call {
 pub fn with_minutes(row: Row, minutes: i32) -> Row
     ensures { λ r. ⌜ r ≡ remarked row minutes ⌝ }
 {
+    let days = row.days;
     Row {
         parent: row.parent,
         numeral: row.numeral,
         order: row.order,
         minutes: minutes,
+        days: days,
+    }
+}
+
+// A row entered without days: all days are its days.
+pub fn undated_row(parent: u32, numeral: u32, order: u32, minutes: i32) -> Row
+    ensures { λ r. ⌜ r ≡ undated parent numeral order minutes ⌝ }
+{
+    Row {
+        parent,
+        numeral,
+        order,
+        minutes,
+        days: Days {
+            first: 0,
+            last: 4294967295,
+        },
     }
 }
 
@@ -53,6 +79,7 @@ pub fn blank_row() -> Row
         numeral: 0,
         order: 0,
         minutes: 0,
+        days: Days { first: 0, last: 0 },
     }
 }
 

@@ -18,7 +18,7 @@ unfolding callOf
 returns c =
     let a = c .before .before .args in
     let e = toZ-ofZ {w = w32} {z = c .signed .result} (record { sfits = c .signed .ok }) ∙ c .signed .ensures in
-    simp (eq-eqb _ _ (c .before .if1 .taken)) (ap (λ (m : ℤ). Add (record { parent = a .a; numeral = a .b; order = a .c; minutes = m })) e)
+    simp (eq-eqb _ _ (c .before .if1 .taken)) (ap (λ (m : ℤ). Add (record { parent = a .a; numeral = a .b; order = a .c; minutes = m; days = record { first = a .e; last = a .f } })) e)
 
 returns-2 : tie.Need-returns-2
 unfolding callOf

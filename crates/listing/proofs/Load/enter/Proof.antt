@@ -6,6 +6,9 @@ use Rattle.listing.proofs.Turns.{entered}
 use Rattle.listing.proofs.Load.enter.Statement.{statement}
 use Rattle.listing.proofs.Load.enter.Tie as tie
 
+undated-row-requires : tie.Need-undated-row-requires
+undated-row-requires c κs = search needs
+
 add-requires : tie.Need-add-requires
 add-requires c κs = search needs
 
@@ -17,9 +20,10 @@ new-requires c κs = search needs
 
 returns : tie.Need-returns
 returns c =
-    let s = c .before .before .before .before .before in
-    entered (s .args .self) (c .before .before .before .add .result) (c .new .result) (s .args .parent) (s .args .numeral) (s .args .order) (s .args .minutes) _
-    (c .before .before .before .add .ensures) (toZ-ofZ {w = w32} (s .fits .minutes)) (c .new .ensures)
+    let a = c .before .before .before in
+    let s = a .before .before .before in
+    entered (s .args .self) (a .add .result) (c .new .result) (a .before .undated-row .result) (s .args .parent) (s .args .numeral) (s .args .order) (s .args .minutes) _
+    (a .add .ensures) (a .before .undated-row .ensures) (toZ-ofZ {w = w32} (s .fits .minutes)) (c .new .ensures)
 
 pub enter-spec : {M : Type 1} → statement M
-enter-spec = tie.close (tie.spec add-requires add-t11 new-requires returns)
+enter-spec = tie.close (tie.spec undated-row-requires add-requires add-t11 new-requires returns)
