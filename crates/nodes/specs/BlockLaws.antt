@@ -12,7 +12,8 @@ use Rattle.forest.specs.Nodes.{begins, rankFrom}
 use Rattle.paths.specs.Forest.{memb, next, forest}
 use Rattle.paths.specs.EmitLayer.{orElse, emit}
 use Rattle.paths.specs.ForestLaws.{next-out}
-use Rattle.paths.specs.EmitLaws.{begins-append, revApp, bodyIn, emits, RightRoot}
+use Rattle.paths.specs.EmitLaws.{begins-append, revApp, bodyIn, RightRoot}
+use Rattle.paths.specs.PrunedLaws.{emits}
 use Rattle.islands.specs.EntryPathLaws.{next-agree}
 
 module _ {B : Type 0} (mk mk′ : ℕ → ℕ → ℕ → ℕ → ℕ → Bool → B) (num par num′ par′ : ℕ → ℕ) (pool : List ℕ)

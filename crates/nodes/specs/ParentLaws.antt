@@ -63,7 +63,7 @@ Allowed (Limit d) adopt = ⊥
 Allowed (Limit d) root = ⊥
 
 module _ (R : List Row) (start : Row → Bool) where
-  regular-init : (depth : Depth) (p : List ℕ) → 1 < length p → Regular R start depth p → Regular R start depth (init p)
+  pub regular-init : (depth : Depth) (p : List ℕ) → 1 < length p → Regular R start depth p → Regular R start depth (init p)
   regular-init depth p h c =
       (chain-init (num R) (par R) (RowOf R) (Start R start) p h (c .0), within-shorter depth p (init p) (omega (arith, init-length p)) (c .1))
 

@@ -3,10 +3,11 @@ use mathlib.Core.List.{List, [], _∷_}
 use Prim.Native.Nat.{ℕ}
 use lib.IntN.{ℤ, pos, negsuc}
 use Rattle.rows.specs.declared.Row.{Row}
+use Rattle.rows.specs.Journal.{undated}
 
 -- a line of the listing program's input
 abbrev pub line : ℕ → ℕ → ℕ → ℤ → Row
-line parent numeral order minutes = record { parent = parent; numeral = numeral; order = order; minutes = minutes }
+line parent numeral order minutes = undated parent numeral order minutes
 
 -- the input of "Listing program and its board"
 unfoldable pub sample : List Row

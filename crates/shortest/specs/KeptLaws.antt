@@ -13,7 +13,7 @@ use Rattle.lists.specs.Lists.{_∈_, filter, Increasing}
 use Rattle.lists.specs.MemberLaws.{eq→eqb, and-out, and-in, map-in, map-out, filter-in, filter-out, append-out, getD-in, place-of, getD-append-right, increasing-filter, increasing-map, pigeonhole}
 use Rattle.paths.specs.Forest.{memb, children, forest}
 use Rattle.forest.specs.Nodes.{init, last, Before}
-use Rattle.forest.specs.BeginningLaws.{before-asym, before-trans}
+use Rattle.forest.specs.BeginningLaws.{before-asym, before-trans, snoc-view}
 use Rattle.paths.specs.ForestLaws.{memb-in, memb-out, Path, path-one, sound, complete, ordered}
 use Rattle.paths.specs.EmitLaws.{last-snoc}
 use Rattle.shortest.specs.BreadthLayer.{fresh, spread}
@@ -21,11 +21,6 @@ use Rattle.shortest.specs.BreadthLaws.{fresh-out, fresh-rising, fresh-ap
 use Rattle.shortest.specs.Shortest.{Sooner}
 
 -- ---- a path and one row more
-
-pub snoc-view : (p : List ℕ) → 0 < length p → p ≡ init p ++ last p ∷ []
-snoc-view [] h = absurd (omega arith)
-snoc-view (x ∷ []) h = refl
-snoc-view (x ∷ y ∷ p) h = ap (λ t. x ∷ t) (snoc-view (y ∷ p) (omega arith))
 
 pub last-at : (p : List ℕ) (k : ℕ) → suc k ≡ length p → last p ≡ getD p k 0
 last-at [] k e = absurd (omega arith)

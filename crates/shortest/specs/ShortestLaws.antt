@@ -18,7 +18,7 @@ use Rattle.image.specs.declared.Body.{Body}
 use Rattle.lists.specs.Lists.{_∈_, filter, numbers, Increasing, totalsFrom}
 use Rattle.lists.specs.MemberLaws.{is-false, eq→eqb, and-in, map-in, map-out, map-same, map-agree, map-map, filter-in, filter-out, numbers-in, numbers-out, totals-map, increasing-distinct, increasing-unique, increasing-filter, pigeonhole}
 use Rattle.forest.specs.Nodes.{init, last, Before, begins, samePath, treeSize, parentRank, rootRank}
-use Rattle.forest.specs.BeginningLaws.{before-asym, begins-refl, begins-both, rank-absent}
+use Rattle.forest.specs.BeginningLaws.{before-asym, begins-refl, begins-both, snoc-view, rank-absent}
 use Rattle.forest.specs.ForestLaws.{Forest, Closed}
 use Rattle.paths.specs.Forest.{memb, forest}
 use Rattle.paths.specs.EmitLayer.{emit, mkBody}
@@ -27,7 +27,8 @@ use Rattle.paths.specs.Siblings.{Sibling}
 use Rattle.paths.specs.Paths.{Regular, closes}
 use Rattle.paths.specs.Nodes.{sorted, starts, regular}
 use Rattle.paths.specs.ForestLaws.{memb-in, memb-out, Path, sound, complete}
-use Rattle.paths.specs.EmitLaws.{bodyIn, RightArguments, emits, last-snoc, init-snoc}
+use Rattle.paths.specs.EmitLaws.{bodyIn, RightArguments, last-snoc, init-snoc}
+use Rattle.paths.specs.PrunedLaws.{emits}
 use Rattle.paths.specs.SiblingLaws.{sibling-order, sibling-asym, sorted-is, sorted-length, sorted-increasing, sorted-distinct}
 use Rattle.paths.specs.PathLaws.{starts-is, starts-increasing, starts-short, regular-is, regular-increasing}
 use Rattle.paths.specs.NodeLaws.{last-in, rows-all}
@@ -37,7 +38,7 @@ use Rattle.nodes.specs.BodyWalkLaws.{closes-is}
 use Rattle.shortest.specs.BreadthLayer.{fresh, spread, rowsUnder, keptStarts, keptRows, hangingRows}
 use Rattle.shortest.specs.BreadthLaws.{fresh-rising, spread-map}
 use Rattle.shortest.specs.Shortest.{fewestRows, firstShortest, Sooner, reached, Kept, pathsTo, shortest, shortestBodies, shortestLeftRows}
-use Rattle.shortest.specs.KeptLaws.{snoc-view, sooner-trans, sooner-asym, Differ, differ-last, found, found-is, found-once, found-from, found-reach, found-differ, hanging, masked-is, masked-rises}
+use Rattle.shortest.specs.KeptLaws.{sooner-trans, sooner-asym, Differ, differ-last, found, found-is, found-once, found-from, found-reach, found-differ, hanging, masked-is, masked-rises}
 
 -- ---- the path with fewest rows, and among those the first
 

@@ -1,7 +1,7 @@
 -- What the contracts of the depth-first enumerator cite: the rows in sibling order with their links, what the links mean, and what a walk leaves. Assumes nothing: these are definitions.
 use mathlib.Core.Path.{_≡_}
 use mathlib.Core.Logic.{_↔_}
-use mathlib.Core.Bool.{Bool, cond, not, _&&_}
+use mathlib.Core.Bool.{Bool, true, cond, not, _&&_}
 use Prim.Native.Nat.{ℕ, suc, _+_, _*_, _≤_, _<_, _-_, min}
 use mathlib.Core.List.{List, _∷_, map}
 use lib.ListN.{length, getD}
@@ -13,6 +13,7 @@ use Rattle.image.specs.Layout.{flat, checked}
 use Rattle.links.specs.LinksLayer.{NextChain}
 use Rattle.paths.specs.Forest.{memb, children, next}
 use Rattle.paths.specs.EmitLayer.{orElse, emit}
+use Rattle.paths.specs.PrunedLayer.{emitPruned}
 use Rattle.table.specs.TableLayer.{rowColumn, numeralColumn, childColumn, nextColumn, classColumn, flagColumn}
 use Rattle.walk.specs.declared.Progress.{Progress}
 use Rattle.walk.specs.declared.Place.{Place}
@@ -91,17 +92,31 @@ NodesWalked R orphan limit level parent root ps n cap check on on′ index index
     (num par : ℕ → ℕ) (pool seen : List ℕ) → ListsChildren R num par pool → MarksSeen R num on seen
     → Walked (emit (nodeBody num orphan) num par pool (limit + 1 - level) seen (map (rowOf R) ps) parent root level (n + 1)) n cap check on on′ index index′ r
 
--- the walk of the row at p and of its later siblings
-unfoldable pub SiblingsWalked : (R : Rows) (orphan : Bool) (limit level parent root p n cap check : ℕ) (on on′ index index′ : List ℕ) (r : Progress) → Type 0
-SiblingsWalked R orphan limit level parent root p n cap check on on′ index index′ r =
-    (sibs : List ℕ) → NextChain (R .next) (length (R .child)) p sibs → NodesWalked R orphan limit level parent root sibs n cap check on on′ index index′ r
+-- the same where something is carried down the paths, `s` to the rows at the positions ps, and a row with which it is spent is passed over with all that is below it
+module _ {S : Type 0} (enter : S → ℕ → S) (alive : S → Bool) (s : S) (R : Rows) (orphan : Bool) (limit level : ℕ) where
+  unfoldable pub NodesPruned : (parent root : ℕ) (ps : List ℕ) (n cap check : ℕ) (on on′ index index′ : List ℕ) (r : Progress) → Type 0
+  NodesPruned parent root ps n cap check on on′ index index′ r =
+      (num par : ℕ → ℕ) (pool seen : List ℕ) → ListsChildren R num par pool → MarksSeen R num on seen
+      → Walked (emitPruned enter alive num par pool (nodeBody num orphan) (limit + 1 - level) seen s (map (rowOf R) ps) parent root level (n + 1)) n cap check on on′ index index′ r
 
--- the walk of what is below the row at p, which is the node of rank n + 1
-unfoldable pub BelowWalked : (R : Rows) (orphan : Bool) (limit level root p n cap check : ℕ) (on on′ index index′ : List ℕ) (r : Progress) → Type 0
-BelowWalked R orphan limit level root p n cap check on on′ index index′ r =
-    (num par : ℕ → ℕ) (pool seen : List ℕ) → ListsChildren R num par pool → MarksSeen R num on seen
-    → Walked (emit (nodeBody num orphan) num par pool (limit - level) (num (rowOf R p) ∷ seen) (next num par pool seen (rowOf R p)) (n + 1) (orElse root (n + 1)) (suc level) (suc (n + 1)))
-    (n + 1) cap check on on′ index index′ r
+  -- the walk of the row at p and of its later siblings
+  unfoldable pub SiblingsPruned : (parent root p n cap check : ℕ) (on on′ index index′ : List ℕ) (r : Progress) → Type 0
+  SiblingsPruned parent root p n cap check on on′ index index′ r =
+      (sibs : List ℕ) → NextChain (R .next) (length (R .child)) p sibs → NodesPruned parent root sibs n cap check on on′ index index′ r
+
+  -- the walk of what is below the row at p, which is the node of rank n + 1, where `s` is carried to it
+  unfoldable pub BelowPruned : (root p n cap check : ℕ) (on on′ index index′ : List ℕ) (r : Progress) → Type 0
+  BelowPruned root p n cap check on on′ index index′ r =
+      (num par : ℕ → ℕ) (pool seen : List ℕ) → ListsChildren R num par pool → MarksSeen R num on seen
+      → Walked (emitPruned enter alive num par pool (nodeBody num orphan) (limit - level) (num (rowOf R p) ∷ seen) s (next num par pool seen (rowOf R p)) (n + 1) (orElse root (n + 1)) (suc level) (suc (n + 1)))
+      (n + 1) cap check on on′ index index′ r
+
+-- nothing is carried, and no row is passed over
+abbrev pub nothing : Unit {0} → ℕ → Unit {0}
+nothing s x = s
+
+abbrev pub always : Unit {0} → Bool
+always s = true
 
 -- the positions from `first` to before `finish` that are flagged with 1
 unfoldable pub flagged : (flags : List ℕ) (first finish : ℕ) → List ℕ
@@ -116,10 +131,15 @@ abbrev pub RootsFrom : (t : List ℕ) (h : Place) (b : Bounds) (first finish : �
 RootsFrom t h b first finish m on on′ index index′ r =
     NodesWalked (rowsOf t) (h .orphan) (b .limit) (h .level) (h .parent) (h .root) (flagged (flagColumn t) first finish) (m .count) (b .cap) (m .check) on on′ index index′ r
 
-abbrev pub SiblingsFrom : (t : List ℕ) (h : Place) (b : Bounds) (first : ℕ) (m : Progress) (on on′ index index′ : List ℕ) (r : Progress) → Type 0
-SiblingsFrom t h b first m on on′ index index′ r =
-    SiblingsWalked (rowsOf t) (h .orphan) (b .limit) (h .level) (h .parent) (h .root) first (m .count) (b .cap) (m .check) on on′ index index′ r
+module _ {S : Type 0} (enter : S → ℕ → S) (alive : S → Bool) (s : S) where
+  abbrev pub RootsPruned : (t : List ℕ) (h : Place) (b : Bounds) (first finish : ℕ) (m : Progress) (on on′ index index′ : List ℕ) (r : Progress) → Type 0
+  RootsPruned t h b first finish m on on′ index index′ r =
+      NodesPruned enter alive s (rowsOf t) (h .orphan) (b .limit) (h .level) (h .parent) (h .root) (flagged (flagColumn t) first finish) (m .count) (b .cap) (m .check) on on′ index index′ r
 
-abbrev pub BelowFrom : (t : List ℕ) (h : Place) (b : Bounds) (p : ℕ) (m : Progress) (on on′ index index′ : List ℕ) (r : Progress) → Type 0
-BelowFrom t h b p m on on′ index index′ r =
-    BelowWalked (rowsOf t) (h .orphan) (b .limit) (h .level) (h .root) p (m .count) (b .cap) (m .check) on on′ index index′ r
+  abbrev pub SiblingsFrom : (t : List ℕ) (h : Place) (b : Bounds) (first : ℕ) (m : Progress) (on on′ index index′ : List ℕ) (r : Progress) → Type 0
+  SiblingsFrom t h b first m on on′ index index′ r =
+      SiblingsPruned enter alive s (rowsOf t) (h .orphan) (b .limit) (h .level) (h .parent) (h .root) first (m .count) (b .cap) (m .check) on on′ index index′ r
+
+  abbrev pub BelowFrom : (t : List ℕ) (h : Place) (b : Bounds) (p : ℕ) (m : Progress) (on on′ index index′ : List ℕ) (r : Progress) → Type 0
+  BelowFrom t h b p m on on′ index index′ r =
+      BelowPruned enter alive s (rowsOf t) (h .orphan) (b .limit) (h .level) (h .root) p (m .count) (b .cap) (m .check) on on′ index index′ r

@@ -7,7 +7,7 @@ ghost use lib.ListN.{length, getD, set};
 ghost use Rattle.table.specs.TableLayer.{classColumn, childColumn};
 ghost use Rattle.paths.specs.EmitLayer.{orElse};
 ghost use Rattle.image.specs.ImageLayer.{Put};
-ghost use Rattle.walk.specs.WalkLayer.{Walkable, rowsOf, RootsFrom, SiblingsFrom, BelowFrom, placedBody, classMarked, opened, firstBelow};
+ghost use Rattle.walk.specs.WalkLayer.{Walkable, rowsOf, RootsFrom, SiblingsFrom, BelowFrom, nothing, always, placedBody, classMarked, opened, firstBelow};
 
 // How many nodes were met, and the check word of their bodies.
 #[repr(C)]
@@ -31,7 +31,7 @@ pub struct Bounds {
 }
 
 // The root rank of a node: its own rank where it has no root yet.
-fn root_of(root: u32, rank: u32) -> u32
+pub fn root_of(root: u32, rank: u32) -> u32
     ensures { λ r. ⌜ r ≡ orElse root rank ⌝ }
 {
     if root == 0 { rank } else { root }
@@ -55,7 +55,7 @@ fn opens(p: u32, level: u32, limit: u32, table: &[u32], marks: &[u32]) -> bool
 }
 
 // Writes the body of the row at p, which is the node of rank n + 1, at its part of the index; `after` is what was met with its subtree.
-fn put_node(
+pub fn put_node(
     p: u32,
     place: Place,
     n: u32,
@@ -84,7 +84,7 @@ fn put_node(
 }
 
 // The position of the first row that is listed below the row at p, which has this level, or one past the last where none is.
-fn first_below(p: u32, level: u32, limit: u32, table: &[u32], marks: &[u32]) -> usize
+pub fn first_below(p: u32, level: u32, limit: u32, table: &[u32], marks: &[u32]) -> usize
     ensures { λ r. ⌜ r ≡ firstBelow (childColumn (now (table .entry))) (classColumn (now (table .entry))) limit p level (now (marks .entry)) ⌝ }
 {
     if opens(p, level, limit, table, marks) {
@@ -94,7 +94,7 @@ fn first_below(p: u32, level: u32, limit: u32, table: &[u32], marks: &[u32]) -> 
 }
 
 // Opens the row at p: marks its class, and keeps its position and its parent's rank where its body will be written.
-fn open_row(p: u32, parent: u32, n: u32, table: &[u32], marks: &mut [u32], index: &mut [u32])
+pub fn open_row(p: u32, parent: u32, n: u32, table: &[u32], marks: &mut [u32], index: &mut [u32])
     requires { ⌜ (getD (classColumn (now table)) p 0 < length (now marks)) × (14 + 6 * n ≤ length (now index)) ⌝ }
     ensures { λ _. ⌜ now (marks .exit) ≡ set (now (marks .entry)) (getD (classColumn (now (table .entry))) p 0) 1 ⌝ }
     ensures { λ _. ⌜ now (index .exit) ≡ set (set (now (index .entry)) (8 + 6 * n) p) (9 + 6 * n) parent ⌝ }
@@ -107,7 +107,7 @@ fn open_row(p: u32, parent: u32, n: u32, table: &[u32], marks: &mut [u32], index
 }
 
 // Closes the row at p, the node of rank n + 1, when all below it is met: takes the mark of its class away and writes its body.
-fn close_row(
+pub fn close_row(
     p: u32,
     place: Place,
     n: u32,
@@ -136,7 +136,7 @@ fn forest(
 ) -> Progress
     requires { ⌜ Walkable (rowsOf (now table)) (length (now marks)) ⌝ }
     requires { ⌜ (place .parent ≤ progress .count) × (place .root ≢ 0) × (progress .count ≤ bounds .cap) × (bounds .cap ≤ 65535) × (place .level ≤ bounds .limit) × (8 + 6 * bounds .cap ≤ length (now index)) ⌝ }
-    ensures { λ r. ⌜ (progress .count ≤ r .count) × SiblingsFrom (now (table .entry)) place bounds first progress (now (marks .entry)) (now (marks .exit)) (now (index .entry)) (now (index .exit)) r ⌝ }
+    ensures { λ r. ⌜ (progress .count ≤ r .count) × SiblingsFrom nothing always tt (now (table .entry)) place bounds first progress (now (marks .entry)) (now (marks .exit)) (now (index .entry)) (now (index .exit)) r ⌝ }
 {
     let mut at = first;
     let mut deep = place.level;
@@ -214,7 +214,7 @@ fn below(
     requires { ⌜ Walkable (rowsOf (now table)) (length (now marks)) ⌝ }
     requires { ⌜ (p < length (childColumn (now table))) × (progress .count < bounds .cap) × (bounds .cap ≤ 65535) × (8 + 6 * bounds .cap ≤ length (now index)) ⌝ }
     requires { ⌜ opened (classColumn (now table)) (bounds .limit) p (place .level) (now marks) ≡ true ⌝ }
-    ensures { λ r. ⌜ (progress .count < r .count) × BelowFrom (now (table .entry)) place bounds p progress (now (marks .entry)) (now (marks .exit)) (now (index .entry)) (now (index .exit)) r ⌝ }
+    ensures { λ r. ⌜ (progress .count < r .count) × BelowFrom nothing always tt (now (table .entry)) place bounds p progress (now (marks .entry)) (now (marks .exit)) (now (index .entry)) (now (index .exit)) r ⌝ }
 {
     let rank = progress.count + 1;
     let begun = Progress {

@@ -4,6 +4,7 @@ use mathlib.Core.Path.{sym, _∙_}
 use Prim.Native.Nat.{_<_}
 use lib.ListN.{length, getD, length-set}
 use Rattle.table.specs.TableLayer.{childColumn, classColumn}
+use Rattle.walk.specs.WalkLayer.{nothing, always}
 use Rattle.walk.specs.WalkLaws.{below-some, opened-level, or-else-rank, walkable-kept}
 use Rattle.walk.proofs.below.Statement.{statement}
 use Rattle.walk.proofs.below.Tie as tie
@@ -95,7 +96,7 @@ returns c =
     let lt : a .p < length (childColumn (a .table .now)) = omega (arith, s .pre .1 .0) in
     let placed : getD (classColumn (a .table .now)) (a .p) 0 < length (a .marks .now) = s .pre .0 .placed (a .p) lt in
     let below = c .before .before .before .before .forest in
-    (omega (arith, below .ensures .0), below-some _ _ _ _ _ _ _ _ _ _ _ _ _ _ _ _ _ lt placed (s .pre .1 .1) (c .before .before .before .before .before .before .before .before .before .before .class .ensures) (c .before .before .before .before .before .before .before .before .before .child .ensures) (c .before .before .before .before .before .before .before .root-of .ensures) (below .ensures .1))
+    (omega (arith, below .ensures .0), below-some nothing always tt _ _ _ _ _ _ _ _ _ _ _ _ _ _ _ _ _ lt placed (s .pre .1 .1) (c .before .before .before .before .before .before .before .before .before .before .class .ensures) (c .before .before .before .before .before .before .before .before .before .child .ensures) (c .before .before .before .before .before .before .before .root-of .ensures) (below .ensures .1))
 
 pub below-spec : {M : Type 1} → statement M
 below-spec =

@@ -5,7 +5,7 @@ use mathlib.Core.List.{List, [], _∷_}
 use Prim.Native.Nat.{ℕ, _≤_, _<_, _-_, _+_, _*_}
 use lib.ListN.{length, getD}
 use Rattle.table.specs.TableLayer.{childColumn, classColumn}
-use Rattle.walk.specs.WalkLayer.{rowsOf}
+use Rattle.walk.specs.WalkLayer.{rowsOf, nothing, always}
 use Rattle.walk.specs.OpenRowsLaws.{Open, newest, Kept, Then, kept-none, kept-put, kept-open, kept-newest, kept-all, then-start, then-leaf, then-open, then-close, then-full, then-end, first-level}
 use Rattle.walk.proofs.forest.Statement.{statement}
 use Rattle.walk.proofs.forest.Tie as tie
@@ -23,9 +23,9 @@ use Rattle.walk.proofs.put_node.Reads as put-node-reads
 
 abbrev Inv-loop : tie.InvT-loop
 Inv-loop first place bounds table marks₀ index₀ at₀ deep₀ newest₀ count₀ sum₀ marks index at deep up count sum =
-    (os : List Open) × (deep ≡ place .level + length os) × (deep ≤ bounds .limit) × (at ≤ 4294967295) × (count ≤ bounds .cap) × (up ≡ newest (place .parent) os) × Kept (length (childColumn table)) (place .parent) index count os
+    (os : List (Open (Unit {0}))) × (deep ≡ place .level + length os) × (deep ≤ bounds .limit) × (at ≤ 4294967295) × (count ≤ bounds .cap) × (up ≡ newest (place .parent) os) × Kept (length (childColumn table)) (place .parent) index count os
     × (length marks ≡ length marks₀) × (length index ≡ length index₀) × (count₀ ≤ count)
-    × Then (rowsOf table) (place .orphan) (bounds .limit) (place .level) (place .parent) (place .root) first count₀ (bounds .cap) sum₀ marks₀ index₀ os at count sum up marks index
+    × Then nothing always tt (rowsOf table) (place .orphan) (bounds .limit) (place .level) (place .parent) (place .root) first count₀ (bounds .cap) sum₀ marks₀ index₀ os tt at count sum up marks index
 
 abbrev μ-loop : tie.MeasureT-loop
 μ-loop first place bounds table marks₀ index₀ at₀ deep₀ newest₀ count₀ sum₀ marks index at deep up count sum =
@@ -35,7 +35,7 @@ loop-holds : tie.Need-loop-holds Inv-loop μ-loop
 loop-holds c =
     let s = c .before .before .before in
     let a = s .args in
-    ([], omega arith, omega (arith, s .pre .1), omega (arith, s .fits), omega (arith, s .pre .1), refl, kept-none _ _ _ _ (omega (arith, s .pre .1)), refl, refl, omega arith, then-start (rowsOf (a .table .now)) (a .place .orphan) (a .bounds .limit) (a .place .level) (a .place .parent) (a .place .root) (a .first) (a .progress .count) (a .bounds .cap) (a .progress .check) (a .marks .now) (a .index .now))
+    ([], omega arith, omega (arith, s .pre .1), omega (arith, s .fits), omega (arith, s .pre .1), refl, kept-none _ _ _ _ _ (omega (arith, s .pre .1)), refl, refl, omega arith, then-start nothing always tt (rowsOf (a .table .now)) (a .place .orphan) (a .bounds .limit) (a .place .level) (a .place .parent) (a .place .root) (a .first) (a .progress .count) (a .bounds .cap) (a .progress .check) (a .marks .now) (a .index .now))
 
 cast-if1 : tie.Need-cast-if1 Inv-loop μ-loop
 cast-if1 c =
@@ -66,7 +66,7 @@ returns c =
     let i = l .inv in
     let lt : l .at < length (childColumn (a .table .now)) = omega (arith, c .before .before .before .if1 .taken, c .before .before .before .before .rows .ensures 3) in
     let e : l .count ≡ a .bounds .cap = omega (arith, i .4, c .before .if2 .taken) in
-    (omega (arith, s .pre .1), then-full (rowsOf (a .table .now)) (a .place .orphan) (a .bounds .limit) (a .place .level) (a .place .parent) (a .place .root) (a .first) (a .progress .count) (a .bounds .cap) (a .progress .check) (a .marks .now) (a .index .now) (i .0) (l .at) (l .count) (l .sum) (l .newest) (l .deep) (l .marks) (l .index) (i .1) (i .2) lt e (i .10))
+    (omega (arith, s .pre .1), then-full nothing always tt (rowsOf (a .table .now)) (a .place .orphan) (a .bounds .limit) (a .place .level) (a .place .parent) (a .place .root) (a .first) (a .progress .count) (a .bounds .cap) (a .progress .check) (a .marks .now) (a .index .now) (i .0) tt (l .at) (l .count) (l .sum) (l .newest) (l .deep) (l .marks) (l .index) refl (i .1) (i .2) lt e (i .10))
 
 first-below-requires : tie.Need-first-below-requires Inv-loop μ-loop
 first-below-requires c κs = search needs
@@ -126,17 +126,17 @@ loop-again c =
     let deeper = first-level (childColumn (a .table .now)) (classColumn (a .table .now)) (a .bounds .limit) (l .at) (l .deep) _ (l .marks) (c .before .before .before .before .before .before .before .before .before .before .first-below .ensures) down in
     let opened = c .before .before .before .before .before .open-row in
     let long : 14 + 6 * l .count ≤ length (l .index) = omega (arith, s .pre .1, i .8) in (
-      record { at = l .at; n = l .count; up = l .newest } ∷ i .0,
+      record { at = l .at; n = l .count; up = l .newest; carried = tt } ∷ i .0,
       omega (arith, i .1),
       omega arith,
       omega (arith, c .child .ok),
       omega arith,
       refl,
-      kept-open _ _ (l .index) _ (l .count) (l .at) (l .newest) (i .0) long lt (i .5) (opened .ensures .1) (i .6),
+      kept-open _ _ (l .index) _ (l .count) (l .at) (l .newest) tt (i .0) long lt (i .5) (opened .ensures .1) (i .6),
       omega (arith, i .7, opened .kept),
       omega (arith, i .8, opened .kept),
       omega (arith, i .9),
-      then-open (rowsOf (a .table .now)) (a .place .orphan) (a .bounds .limit) (a .place .level) (a .place .parent) (a .place .root) (a .first) (a .progress .count) (a .bounds .cap) (a .progress .check) (a .marks .now) (a .index .now) (i .0) (l .at) (l .count) (l .sum) (l .newest) (l .deep) _ _ (l .marks) _ (l .index) _ (s .pre .1 .1) (i .1) (i .2) lt placed (c .before .before .before .before .before .before .before .before .before .before .first-below .ensures) down (opened .ensures .0) (opened .ensures .1) (c .child .ensures) (i .10),
+      then-open nothing always tt (rowsOf (a .table .now)) (a .place .orphan) (a .bounds .limit) (a .place .level) (a .place .parent) (a .place .root) (a .first) (a .progress .count) (a .bounds .cap) (a .progress .check) (a .marks .now) (a .index .now) (i .0) tt (l .at) (l .count) (l .sum) (l .newest) (l .deep) _ _ (l .marks) _ (l .index) _ refl (s .pre .1 .1) (i .1) (i .2) lt placed (c .before .before .before .before .before .before .before .before .before .before .first-below .ensures) down (opened .ensures .0) (opened .ensures .1) (c .child .ensures) (i .10),
     )
 
 add-t34 : tie.Need-add-t34 Inv-loop μ-loop
@@ -193,7 +193,7 @@ loop-again-2 c =
       i .7,
       omega (arith, i .8, put .kept),
       omega (arith, i .9),
-      then-leaf (rowsOf (a .table .now)) (a .place .orphan) (a .bounds .limit) (a .place .level) (a .place .parent) (a .place .root) (a .first) (a .progress .count) (a .bounds .cap) (a .progress .check) (a .marks .now) (a .index .now) (i .0) (l .at) (l .count) (l .sum) (l .newest) (l .deep) _ _ (l .marks) (l .index) _ (i .1) (i .2) lt placed room past (put .ensures) (c .next .ensures) (i .10),
+      then-leaf nothing always tt (rowsOf (a .table .now)) (a .place .orphan) (a .bounds .limit) (a .place .level) (a .place .parent) (a .place .root) (a .first) (a .progress .count) (a .bounds .cap) (a .progress .check) (a .marks .now) (a .index .now) (i .0) tt (l .at) (l .count) (l .sum) (l .newest) (l .deep) _ _ (l .marks) (l .index) _ refl (i .1) (i .2) lt placed room past (put .ensures) (c .next .ensures) (i .10),
     )
 
 same-length-3 : tie.Need-same-length-3 Inv-loop μ-loop
@@ -212,7 +212,7 @@ returns-2 c =
     let i = l .inv in
     let past : length (childColumn (a .table .now)) ≤ l .at = omega (arith, c .before .before .if1 .left, c .before .before .before .rows .ensures 3) in
     let none = kept-all _ _ (l .index) (l .count) (l .newest) (i .0) (i .5) (c .if4 .taken) (i .6) in
-    (i .9, then-end (rowsOf (a .table .now)) (a .place .orphan) (a .bounds .limit) (a .place .level) (a .place .parent) (a .place .root) (a .first) (a .progress .count) (a .bounds .cap) (a .progress .check) (a .marks .now) (a .index .now) (i .0) (l .at) (l .count) (l .sum) (l .newest) (l .marks) (l .index) none past (i .4) (i .10))
+    (i .9, then-end nothing always tt (rowsOf (a .table .now)) (a .place .orphan) (a .bounds .limit) (a .place .level) (a .place .parent) (a .place .root) (a .first) (a .progress .count) (a .bounds .cap) (a .progress .check) (a .marks .now) (a .index .now) (i .0) tt (l .at) (l .count) (l .sum) (l .newest) (l .marks) (l .index) none past (i .4) (i .10))
 
 sub-prior : tie.Need-sub-prior Inv-loop μ-loop
 sub-prior c =
@@ -276,18 +276,18 @@ loop-again-3 c =
     let next : c .before .before .before .before .before .before .before .before .before .before .before .before .bodies-end .result + 1 ≡ 9 + 6 * (l .newest - 1) = omega (arith, start) in
     let up : c .before .before .before .before .before .before .before .before .get2 .result ≡ getD (l .index) (9 + 6 * (l .newest - 1)) 0 = c .before .before .before .before .before .before .before .before .get2 .ensures ∙ rw next in
     let closed = c .before .before .before .before .before .close-row in
-    let t = then-close (rowsOf (a .table .now)) (a .place .orphan) (a .bounds .limit) (a .place .level) (a .place .parent) (a .place .root) (a .first) (a .progress .count) (a .bounds .cap) (a .progress .check) (a .marks .now) (a .index .now) (i .0) (l .at) (l .count) (l .sum) (l .newest) (l .deep) _ _ _ _ (l .marks) _ (l .index) _ (i .1) (i .5) (c .before .before .before .before .before .before .before .before .before .before .before .before .before .if4 .left) (i .6) past (i .4) at up (c .next2 .ensures) (closed .ensures .0) (closed .ensures .1) (i .10) in (
-      t .0,
+    let t = then-close nothing always tt (rowsOf (a .table .now)) (a .place .orphan) (a .bounds .limit) (a .place .level) (a .place .parent) (a .place .root) (a .first) (a .progress .count) (a .bounds .cap) (a .progress .check) (a .marks .now) (a .index .now) (i .0) tt (l .at) (l .count) (l .sum) (l .newest) (l .deep) _ _ _ _ (l .marks) _ (l .index) _ (i .1) (i .5) (c .before .before .before .before .before .before .before .before .before .before .before .before .before .if4 .left) (i .6) past (i .4) at up (c .next2 .ensures) (closed .ensures .0) (closed .ensures .1) (i .10) in (
       t .1,
+      t .4,
       omega (arith, i .2),
       omega (arith, c .next2 .ok),
       i .4,
-      t .2,
-      t .3,
+      t .5,
+      t .6,
       omega (arith, i .7, closed .kept),
       omega (arith, i .8, closed .kept),
       i .9,
-      t .4,
+      t .7,
     )
 
 pub forest-spec : {M : Type 1} → statement M

@@ -6,8 +6,8 @@ use mathlib.Core.Path.{_≡_, refl, sym}
 use mathlib.Core.List.{List}
 use Rattle.table.specs.TableLayer.{childColumn, classColumn}
 use Rattle.walk.specs.declared.Progress.{Progress}
-use Rattle.walk.specs.WalkLayer.{RootsFrom, rowsOf, firstBelow}
-use Rattle.walk.specs.WalkLaws.{walkable-kept, nodes-shallow, roots-past, roots-skip, roots-full, roots-over, roots-step}
+use Rattle.walk.specs.WalkLayer.{RootsFrom, RootsPruned, nothing, always, rowsOf, firstBelow}
+use Rattle.walk.specs.WalkLaws.{nodes-plain, walkable-kept, nodes-shallow, roots-past, roots-skip, roots-full, roots-over, roots-step}
 use Rattle.walk.specs.OpenRowsLaws.{below-leaf, first-open}
 use Rattle.walk.proofs.roots.Statement.{statement}
 use Rattle.walk.proofs.roots.Tie as tie
@@ -23,7 +23,7 @@ abbrev Inv-loop : tie.InvT-loop
 Inv-loop first end place bounds table marks₀ index₀ p₀ count₀ sum₀ marks index p count sum =
     (count ≤ bounds .cap) × (length marks ≡ length marks₀) × (length index ≡ length index₀)
     × ((on′ ix′ : List ℕ) (r : Progress)
-    → RootsFrom table place bounds p end (record { count = count; check = sum }) marks on′ index ix′ r
+    → RootsPruned nothing always tt table place bounds p end (record { count = count; check = sum }) marks on′ index ix′ r
     → RootsFrom table place bounds first end (record { count = count₀; check = sum₀ }) marks₀ on′ index₀ ix′ r)
 
 abbrev μ-loop : tie.MeasureT-loop
@@ -32,12 +32,12 @@ abbrev μ-loop : tie.MeasureT-loop
 
 returns : tie.Need-returns Inv-loop μ-loop
 returns c =
-    nodes-shallow _ _ _ _ _ _ _ _ _ _ _ _ (c .if1 .taken) (omega (arith, c .before .before .before .before .before .before .pre .1))
+    nodes-plain _ _ _ _ _ _ _ _ _ _ _ _ _ _ _ (nodes-shallow nothing always tt _ _ _ _ _ _ _ _ _ _ _ _ (c .if1 .taken) (omega (arith, c .before .before .before .before .before .before .pre .1)))
 
 -- src/lib.rt:266:5
 loop-holds : tie.Need-loop-holds Inv-loop μ-loop
 loop-holds c =
-    (omega (arith, c .before .before .before .before .before .before .pre .1), refl, refl, λ on′ ix′ r w. w)
+    (omega (arith, c .before .before .before .before .before .before .pre .1), refl, refl, λ on′ ix′ r w. nodes-plain _ _ _ _ _ _ _ _ _ _ _ _ _ _ _ w)
 
 -- src/lib.rt:267:12
 flag-requires : tie.Need-flag-requires Inv-loop μ-loop
@@ -56,7 +56,7 @@ loop-less c = search needs
 loop-again : tie.Need-loop-again Inv-loop μ-loop
 loop-again c =
     let i = c .before .before .before .loop .inv in
-    (i .0, i .1, i .2, λ on′ ix′ r w. i .3 on′ ix′ r (roots-skip _ _ _ _ _ _ _ _ _ _ _ _ _ _ _ _ _ _ (c .before .before .loop-test .taken) (c .before .flag .ensures) (c .if2 .taken) w))
+    (i .0, i .1, i .2, λ on′ ix′ r w. i .3 on′ ix′ r (roots-skip nothing always tt _ _ _ _ _ _ _ _ _ _ _ _ _ _ _ _ _ _ (c .before .before .loop-test .taken) (c .before .flag .ensures) (c .if2 .taken) w))
 
 -- src/lib.rt:273:24
 add-t19 : tie.Need-add-t19 Inv-loop μ-loop
@@ -78,7 +78,7 @@ returns-2 c =
     let s = c .before .before .before .before .before .before .before .before .before .before .before .before .before in
     let i = c .before .before .before .before .before .before .loop .inv in
     let e : c .before .before .before .before .before .before .loop .count ≡ s .args .bounds .cap = omega (arith, i .0, c .before .if3 .taken) in
-    i .3 _ _ _ (roots-full _ _ _ _ _ _ _ _ _ _ _ _ _ _ _ _ (c .before .before .before .before .before .before .before .if1 .left) (c .before .before .before .before .before .loop-test .taken) (c .before .before .before .before .flag .ensures) (c .before .before .before .if2 .left) e)
+    i .3 _ _ _ (roots-full nothing always tt _ _ _ _ _ _ _ _ _ _ _ _ _ _ _ _ (c .before .before .before .before .before .before .before .if1 .left) refl (c .before .before .before .before .before .loop-test .taken) (c .before .before .before .before .flag .ensures) (c .before .before .before .if2 .left) e)
 
 -- src/lib.rt:277:13
 first-below-requires : tie.Need-first-below-requires Inv-loop μ-loop
@@ -125,11 +125,11 @@ loop-again-2 c =
     let lt : l .p < length (childColumn t) = omega (arith, c .before .before .before .before .before .before .before .before .before .before .before .before .before .loop-test .taken) in
     let marked : getD (classColumn t) (l .p) 0 < length (l .marks) = omega (arith, s .pre .0 .placed (l .p) lt, i .1) in
     let past : length (childColumn t) ≤ firstBelow (childColumn t) (classColumn t) (s .args .bounds .limit) (l .p) (s .args .place .level) (l .marks) = omega (arith, c .before .before .before .before .before .if4 .taken, c .before .before .before .before .before .before .before .first-below .ensures, c .before .before .before .before .before .before .rows .ensures 3) in
-    let leaf = below-leaf (rowsOf t) (s .args .place .orphan) (s .args .bounds .limit) (s .args .place .level) (s .args .place .root) (l .p) (l .count) (s .args .bounds .cap) (l .sum) (l .marks) (l .index) lt marked (c .before .before .before .before .before .before .before .before .before .if3 .left) past in (
+    let leaf = below-leaf nothing always tt (rowsOf t) (s .args .place .orphan) (s .args .bounds .limit) (s .args .place .level) (s .args .place .root) (l .p) (l .count) (s .args .bounds .cap) (l .sum) (l .marks) (l .index) lt marked (c .before .before .before .before .before .before .before .before .before .if3 .left) past in (
       omega (arith, c .before .before .before .before .before .before .before .before .before .if3 .left),
       i .1,
       omega (arith, i .2, c .before .before .put-node .kept),
-      λ on′ ix′ r w. i .3 on′ ix′ r (roots-step _ _ _ _ _ _ _ _ _ _ _ _ _ _ _ _ _ _ _ _ _ _ _ (c .before .before .before .before .before .before .before .before .before .before .before .before .before .before .before .if1 .left) (c .before .before .before .before .before .before .before .before .before .before .before .before .before .loop-test .taken) long (c .before .before .before .before .before .before .before .before .before .before .before .before .flag .ensures) (c .before .before .before .before .before .before .before .before .before .before .before .if2 .left) leaf (omega (arith, c .before .before .before .before .before .before .before .before .before .if3 .left)) (c .before .before .put-node .ensures) w),
+      λ on′ ix′ r w. i .3 on′ ix′ r (roots-step nothing always tt _ _ _ _ _ _ _ _ _ _ _ _ _ _ _ _ _ _ _ _ _ _ _ (c .before .before .before .before .before .before .before .before .before .before .before .before .before .before .before .if1 .left) refl (c .before .before .before .before .before .before .before .before .before .before .before .before .before .loop-test .taken) long (c .before .before .before .before .before .before .before .before .before .before .before .before .flag .ensures) (c .before .before .before .before .before .before .before .before .before .before .before .if2 .left) leaf (omega (arith, c .before .before .before .before .before .before .before .before .before .if3 .left)) (c .before .before .put-node .ensures) w),
     )
 
 -- src/lib.rt:292:13
@@ -155,7 +155,7 @@ same-length-4 c =
 -- src/lib.rt:294:13
 returns-3 : tie.Need-returns-3 Inv-loop μ-loop
 returns-3 c =
-    c .before .before .before .before .before .before .before .before .before .before .before .before .before .before .before .before .before .before .before .loop .inv .3 _ _ _ (roots-over _ _ _ _ _ _ _ _ _ _ _ _ _ _ _ _ _ _ (c .before .before .before .before .before .before .before .before .before .before .before .before .before .before .before .before .before .before .before .before .if1 .left) (c .before .before .before .before .before .before .before .before .before .before .before .before .before .before .before .before .before .before .loop-test .taken) (c .before .before .before .before .before .before .before .before .before .before .before .before .before .before .before .before .before .flag .ensures) (c .before .before .before .before .before .before .before .before .before .before .before .before .before .before .before .before .if2 .left) (c .before .before .before .before .before .before .before .below .ensures .1) (c .if5 .taken))
+    c .before .before .before .before .before .before .before .before .before .before .before .before .before .before .before .before .before .before .before .loop .inv .3 _ _ _ (roots-over nothing always tt _ _ _ _ _ _ _ _ _ _ _ _ _ _ _ _ _ _ (c .before .before .before .before .before .before .before .before .before .before .before .before .before .before .before .before .before .before .before .before .if1 .left) refl (c .before .before .before .before .before .before .before .before .before .before .before .before .before .before .before .before .before .before .loop-test .taken) (c .before .before .before .before .before .before .before .before .before .before .before .before .before .before .before .before .before .flag .ensures) (c .before .before .before .before .before .before .before .before .before .before .before .before .before .before .before .before .if2 .left) (c .before .before .before .before .before .before .before .below .ensures .1) (c .if5 .taken))
 
 -- src/lib.rt:296:9
 put-node-requires-2 : tie.Need-put-node-requires-2 Inv-loop μ-loop
@@ -183,7 +183,7 @@ loop-again-3 c =
       omega (arith, c .before .before .before .before .before .if5 .left),
       omega (arith, i .1, c .before .before .before .before .before .before .before .before .before .before .before .before .below .kept),
       omega (arith, i .2, c .before .before .before .before .before .before .before .before .before .before .before .before .below .kept, c .before .before .put-node2 .kept),
-      λ on′ ix′ r w. i .3 on′ ix′ r (roots-step _ _ _ _ _ _ _ _ _ _ _ _ _ _ _ _ _ _ _ _ _ _ _ (c .before .before .before .before .before .before .before .before .before .before .before .before .before .before .before .before .before .before .before .before .before .before .before .before .before .if1 .left) (c .before .before .before .before .before .before .before .before .before .before .before .before .before .before .before .before .before .before .before .before .before .before .before .loop-test .taken) long (c .before .before .before .before .before .before .before .before .before .before .before .before .before .before .before .before .before .before .before .before .before .before .flag .ensures) (c .before .before .before .before .before .before .before .before .before .before .before .before .before .before .before .before .before .before .before .before .before .if2 .left) (c .before .before .before .before .before .before .before .before .before .before .before .before .below .ensures .1) (c .before .before .before .before .before .if5 .left) (c .before .before .put-node2 .ensures) w),
+      λ on′ ix′ r w. i .3 on′ ix′ r (roots-step nothing always tt _ _ _ _ _ _ _ _ _ _ _ _ _ _ _ _ _ _ _ _ _ _ _ (c .before .before .before .before .before .before .before .before .before .before .before .before .before .before .before .before .before .before .before .before .before .before .before .before .before .if1 .left) refl (c .before .before .before .before .before .before .before .before .before .before .before .before .before .before .before .before .before .before .before .before .before .before .before .loop-test .taken) long (c .before .before .before .before .before .before .before .before .before .before .before .before .before .before .before .before .before .before .before .before .before .before .flag .ensures) (c .before .before .before .before .before .before .before .before .before .before .before .before .before .before .before .before .before .before .before .before .before .if2 .left) (c .before .before .before .before .before .before .before .before .before .before .before .before .below .ensures .1) (c .before .before .before .before .before .if5 .left) (c .before .before .put-node2 .ensures) w),
     )
 
 -- src/lib.rt:246:1
@@ -199,7 +199,7 @@ same-length-6 c =
 -- src/lib.rt:246:1
 returns-4 : tie.Need-returns-4 Inv-loop μ-loop
 returns-4 c =
-    c .before .loop .inv .3 _ _ _ (roots-past _ _ _ _ _ _ _ _ _ _ _ _ _ _ (c .loop-test .left) (c .before .loop .inv .0))
+    c .before .loop .inv .3 _ _ _ (roots-past nothing always tt _ _ _ _ _ _ _ _ _ _ _ _ _ _ (c .loop-test .left) (c .before .loop .inv .0))
 
 pub roots-spec : {M : Type 1} → statement M
 roots-spec =
