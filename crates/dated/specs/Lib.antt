@@ -1,0 +1,4 @@
+pub mod Dated
+pub mod OutcomeLayer
+pub mod DatedLaws
+pub mod DatedCases
