@@ -12,10 +12,12 @@ use Rattle.rows.specs.declared.Row.{Row}
 use Rattle.sorting.specs.KeyLayer.{PositionOrdered}
 use Rattle.table.specs.TableLayer.{rowColumn}
 use Rattle.table.specs.TableLaws.{column-length}
-use Rattle.ordering.specs.OrderingLayer.{RowsRead}
+use Rattle.ordering.specs.OrderingLayer.{RowsRead, spansOf}
 use Rattle.links.specs.PreparedLayer.{Prepared, StartFlags, WithNumerals}
 use Rattle.enumerate.specs.EnumerateLayer.{ClearWorkspace}
-use Rattle.assemble.specs.AssembledLayer.{PreparedRows}
+use Rattle.assemble.specs.declared.Placement.{Placement}
+use Rattle.assemble.specs.declared.Placement.the-variants.{AllPaths, Shortest, Dated}
+use Rattle.assemble.specs.AssembledLayer.{PreparedRows, SpansRead, datedRows}
 use Rattle.walk.specs.WalkLaws.{zeros-clear}
 
 -- ---- the front of an array that was lent, written and given back, and is lent again
@@ -75,3 +77,18 @@ module _ (n : ℕ) where
         marks-long = omega (arith, length-take-le n (replicate {A = ℕ} size 0) (omega (arith, length-replicate {A = ℕ} size 0)));
         marks-clear = zeros-clear n (take n (replicate size 0)) zeros;
       }
+
+-- ---- the days that what is asked for reads
+
+pub dated-most : (placement : Placement) (n : ℕ) → datedRows placement n ≤ n
+dated-most (AllPaths choice depth) n = omega arith
+dated-most Shortest n = omega arith
+dated-most (Dated choice depth window) n = omega arith
+
+-- what was read of them is lent again
+pub spans-again : (placement : Placement) (rows : List Row) (n dated : ℕ) → dated ≡ datedRows placement n → (spans spans₀ : List ℕ) → length spans ≡ length (take (2 * dated) spans₀) → 2 * dated ≤ length spans₀
+    → spans ≡ spansOf (take dated rows) → SpansRead placement (take n rows) (take (2 * dated) (spans ++ drop (2 * dated) spans₀))
+spans-again (AllPaths choice depth) rows n dated e spans spans₀ long within are = tt
+spans-again Shortest rows n dated e spans spans₀ long within are = tt
+spans-again (Dated choice depth window) rows n dated e spans spans₀ long within are =
+    take-at spans (drop (2 * dated) spans₀) (2 * dated) (long ∙ length-take-le (2 * dated) spans₀ within) ∙ are ∙ ap (λ (k : ℕ). spansOf (take k rows)) e

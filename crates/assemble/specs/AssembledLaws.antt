@@ -165,27 +165,27 @@ classes-of R t t′ y k = rw (k .rows-same) (rw (k .classes-same) (record {
 }))
 
 -- the bodies bs of any nodes, once they were walked
-module _ (R : List Row) (orphan : ℕ) (bs : List Body) (words totals cap : ℕ) (long : 8 ≤ words) (some : 1 ≤ totals) (cap-is : cap ≡ capacityOf words totals)
+module _ (R : List Row) (orphan : ℕ) (bs : List Body) (words totals cap : ℕ) (long : 8 ≤ words) (some : 1 ≤ totals) (cap-low : cap ≤ capacityOf words totals)
     (on on′ ix ix′ : List ℕ) (words-are : length ix ≡ words) (m : Progress) (w : Walked bs 0 cap 0 on on′ ix ix′ m) where
-  pub nodes-over : cap < m .count → refusal9 (length bs) words totals ≡ true
-  nodes-over h = capacity-over (length bs) words totals long some (omega (arith, w .count, cap-is))
+  pub nodes-over : cap ≡ capacityOf words totals → cap < m .count → refusal9 (length bs) words totals ≡ true
+  nodes-over e h = capacity-over (length bs) words totals long some (omega (arith, w .count, e))
 
   module _ (fit : m .count ≤ cap) where
-    count-is : m .count ≡ length bs
+    pub count-is : m .count ≡ length bs
     count-is = omega (arith, w .count)
 
     pub nodes-fit : refusal9 (length bs) words totals ≡ false
-    nodes-fit = capacity-fits (length bs) words totals long some (omega (arith, count-is, cap-is))
+    nodes-fit = capacity-fits (length bs) words totals long some (omega (arith, count-is, cap-low))
 
     pub nodes-few : m .count < totals
-    nodes-few = omega (arith, capacity-bounds words totals long, cap-is)
+    nodes-few = omega (arith, capacity-bounds words totals long, cap-low)
 
     pub nodes-written : BodiesOver R bs → (orphan ≤ 1 → (b : Body) → b ∈ bs → 1 ≤ b .row) → NodesWritten R orphan bs ix ix′ m
     nodes-written over named = record {
       count-is = count-is;
       check-is = w .check fit;
-      few = omega (arith, count-is, capacity-bounds words totals long, cap-is);
-      room = omega (arith, count-is, capacity-bounds words totals long, cap-is, words-are);
+      few = omega (arith, count-is, capacity-bounds words totals long, cap-low);
+      room = omega (arith, count-is, capacity-bounds words totals long, cap-low, words-are);
       written = w .written fit;
       over = over;
       named = named;

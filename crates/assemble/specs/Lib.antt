@@ -2,3 +2,4 @@ pub mod AssembledLayer
 pub mod StartLaws
 pub mod AssembledLaws
 pub mod ShortestRowsLaws
+pub mod DatedRowsLaws

@@ -28,15 +28,18 @@ use Rattle.refusals.specs.TestsLayer.{lacksStart, earlyRefusal}
 use Rattle.refusals.specs.TestsLaws.{early-met}
 use Rattle.finish.specs.FinishLayer.{BodiesOver, lateRefusal, lateAnswer, Finished}
 use Rattle.assemble.specs.declared.Placement.{Placement}
-use Rattle.assemble.specs.AssembledLayer.{shortestNine, ShortestRowsBuilt, Placeable, RowsPlaced}
+use Rattle.assemble.specs.AssembledLayer.{shortestNine, ShortestRowsBuilt, Placeable, RowsPlaced, SpansRead}
 
 -- what a match tells of what is asked for
 pub placeable-as : (p q : Placement) → p ≡ q → Placeable p → Placeable q
 placeable-as p q e h = subst Placeable e h
 
-pub placed-as : (p q : Placement) → p ≡ q → (R : List Row) (start : Row → Bool) (index index′ : List ℕ) (totals totals′ : List ℤ) (r : Built)
-    → RowsPlaced q R start index index′ totals totals′ r → RowsPlaced p R start index index′ totals totals′ r
-placed-as p q e R start index index′ totals totals′ r h = subst (λ x. RowsPlaced x R start index index′ totals totals′ r) (sym e) h
+pub placed-as : (p q : Placement) → p ≡ q → (R : List Row) (start : Row → Bool) (index index′ : List ℕ) (totals totals′ : List ℤ) (days days′ : List ℕ) (r : Built)
+    → RowsPlaced q R start index index′ totals totals′ days days′ r → RowsPlaced p R start index index′ totals totals′ days days′ r
+placed-as p q e R start index index′ totals totals′ days days′ r h = subst (λ x. RowsPlaced x R start index index′ totals totals′ days days′ r) (sym e) h
+
+pub spans-as : (p q : Placement) → p ≡ q → (R : List Row) (spans : List ℕ) → SpansRead p R spans → SpansRead q R spans
+spans-as p q e R spans h = subst (λ x. SpansRead x R spans) e h
 
 -- the choices that ask for nothing
 abbrev pub noChoice : Choice

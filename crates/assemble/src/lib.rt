@@ -12,20 +12,24 @@ ghost use Rattle.islands.specs.Entries.{islands};
 ghost use Rattle.nodes.specs.Refusals.{refusal6, refusal7, refusal8};
 ghost use Rattle.request.specs.Build.{startRule};
 ghost use Rattle.table.specs.TableLayer.{rowColumn};
+ghost use Rattle.ordering.specs.OrderingLayer.{spansOf};
 ghost use Rattle.links.specs.PreparedLayer.{WithNumerals};
-ghost use Rattle.refusals.specs.TestsLayer.{capacityOf};
+ghost use Rattle.refusals.specs.TestsLayer.{capacityOf, datedCapacityOf};
 ghost use Rattle.enumerate.specs.EnumerateLayer.{ClearWorkspace};
-ghost use Rattle.assemble.specs.AssembledLayer.{RowsBuilt, ShortestRowsBuilt, Placeable, RowsPlaced, PreparedRows, AnyPreparedRows};
+ghost use Rattle.assemble.specs.AssembledLayer.{RowsBuilt, ShortestRowsBuilt, DatedRowsBuilt, Placeable, RowsPlaced, SpansRead, datedRows, PreparedRows, AnyPreparedRows, AnyRead};
+ghost use Rattle.assemble.specs.declared.Placement.the-variants.{Dated};
 use built::Built;
 use options::Choice;
 use options::Depth;
 use request::Start;
+use rows::Days;
 use rows::Row;
 
-// Which paths of the rows are nodes: all of them, by these choices and this depth, or for each numeral the shortest alone.
+// Which paths of the rows are nodes: all of them, by these choices and this depth, for each numeral the shortest alone, or by choices and a depth those with days left in a window.
 pub enum Placement {
     AllPaths(Choice, Depth),
     Shortest,
+    Dated(Choice, Depth, Days),
 }
 
 // Enumerates the nodes and finishes the build of rows that are prepared. Where it is refused, both slices may hold anything.
@@ -134,20 +138,94 @@ fn place_shortest(
     write_shortest(cap, minutes, table, reached, marks, index, totals)
 }
 
-// The build of rows that are prepared. Where it is refused, both slices may hold anything.
-fn place_nodes(
-    placement: Placement,
+// Walks the paths with days left and finishes the build of rows that are prepared. Where it is refused, the slices may hold anything.
+fn write_dated(
+    choice: Choice,
+    depth: Depth,
+    window: Days,
+    cap: u32,
     minutes: &[i32],
+    spans: &[u32],
     table: &mut [u32],
     reached: &mut [u32],
     marks: &mut [u32],
     index: &mut [u32],
     totals: &mut [i64],
+    days: &mut [u32],
 ) -> Built
-    requires { ⌜ AnyPreparedRows (now table) (now minutes) ⌝ }
+    requires { ⌜ AnyRead (Dated choice depth window) (now table) (now minutes) (now spans) ⌝ }
+    requires { ⌜ (choice .orphan ≡ 0) × (8 ≤ length (now index)) × (1 ≤ length (now totals)) × (cap ≡ datedCapacityOf (length (now index)) (length (now totals)) (length (now days))) ⌝ }
+    requires { ⌜ ClearWorkspace (length (rowColumn (now table))) (now reached) (now marks) ⌝ }
+    ensures { λ r. ⌜ ((R : List Row) (start : Row → Bool) (code : ℕ) → PreparedRows R start (now (table .entry)) (now (minutes .entry)) → now (spans .entry) ≡ spansOf R → choice ≡ choiceOf code → DatedRowsBuilt R code depth start window (now (index .entry)) (now (index .exit)) (now (totals .entry)) (now (totals .exit)) (now (days .entry)) (now (days .exit)) r) ⌝ }
+{
+    let progress = dated_nodes::walk_dated(window, depth, cap, spans, table, marks, index, days);
+    if cap < progress.count {
+        return built::refused(9);
+    }
+    let built = finish::finish(choice, progress, minutes, table, reached, index, totals);
+    if built.refusal != 0 {
+        return built;
+    }
+    dated_nodes::fill_days(window, progress.count as usize, spans, index, days);
+    built
+}
+
+// The dated build of rows that are prepared. Where it is refused, the slices may hold anything.
+fn place_dated(
+    choice: Choice,
+    depth: Depth,
+    window: Days,
+    minutes: &[i32],
+    spans: &[u32],
+    table: &mut [u32],
+    reached: &mut [u32],
+    marks: &mut [u32],
+    index: &mut [u32],
+    totals: &mut [i64],
+    days: &mut [u32],
+) -> Built
+    requires { ⌜ AnyRead (Dated choice depth window) (now table) (now minutes) (now spans) ⌝ }
+    requires { ⌜ choice .orphan ≡ 0 ⌝ }
+    requires { ⌜ ClearWorkspace (length (rowColumn (now table))) (now reached) (now marks) ⌝ }
+    ensures { λ r. ⌜ ((R : List Row) (start : Row → Bool) (code : ℕ) → PreparedRows R start (now (table .entry)) (now (minutes .entry)) → now (spans .entry) ≡ spansOf R → choice ≡ choiceOf code → DatedRowsBuilt R code depth start window (now (index .entry)) (now (index .exit)) (now (totals .entry)) (now (totals .exit)) (now (days .entry)) (now (days .exit)) r) ⌝ }
+{
+    let refusal = refusals::early_refusal(0, table, index.len(), totals.len());
+    if refusal != 0 {
+        return built::refused(refusal);
+    }
+    let cap = refusals::dated_capacity(index.len(), totals.len(), days.len());
+    write_dated(
+        choice,
+        depth,
+        window,
+        cap,
+        minutes,
+        spans,
+        table,
+        reached,
+        marks,
+        index,
+        totals,
+        days,
+    )
+}
+
+// The build of rows that are prepared. Where it is refused, the slices may hold anything.
+fn place_nodes(
+    placement: Placement,
+    minutes: &[i32],
+    spans: &[u32],
+    table: &mut [u32],
+    reached: &mut [u32],
+    marks: &mut [u32],
+    index: &mut [u32],
+    totals: &mut [i64],
+    days: &mut [u32],
+) -> Built
+    requires { ⌜ AnyRead placement (now table) (now minutes) (now spans) ⌝ }
     requires { ⌜ Placeable placement ⌝ }
     requires { ⌜ ClearWorkspace (length (rowColumn (now table))) (now reached) (now marks) ⌝ }
-    ensures { λ r. ⌜ ((R : List Row) (start : Row → Bool) → PreparedRows R start (now (table .entry)) (now (minutes .entry)) → RowsPlaced placement R start (now (index .entry)) (now (index .exit)) (now (totals .entry)) (now (totals .exit)) r) ⌝ }
+    ensures { λ r. ⌜ ((R : List Row) (start : Row → Bool) → PreparedRows R start (now (table .entry)) (now (minutes .entry)) → SpansRead placement R (now (spans .entry)) → RowsPlaced placement R start (now (index .entry)) (now (index .exit)) (now (totals .entry)) (now (totals .exit)) (now (days .entry)) (now (days .exit)) r) ⌝ }
 {
     match placement {
         Placement::AllPaths(choice, depth) => place_paths(
@@ -161,6 +239,30 @@ fn place_nodes(
             totals,
         ),
         Placement::Shortest => place_shortest(minutes, table, reached, marks, index, totals),
+        Placement::Dated(choice, depth, window) => place_dated(
+            choice,
+            depth,
+            window,
+            minutes,
+            spans,
+            table,
+            reached,
+            marks,
+            index,
+            totals,
+            days,
+        ),
+    }
+}
+
+// How many of n rows have their days read: all for a dated build, else none.
+fn dated_rows(placement: Placement, n: usize) -> usize
+    ensures { λ r. ⌜ r ≡ datedRows placement n ⌝ }
+{
+    match placement {
+        Placement::AllPaths(_, _) => 0,
+        Placement::Shortest => 0,
+        Placement::Dated(_, _, _) => n,
     }
 }
 
@@ -173,17 +275,28 @@ fn build_few(
     list: &[u32],
     index: &mut [u32],
     totals: &mut [i64],
+    days: &mut [u32],
 ) -> Built
     requires { ⌜ (n ≤ 64) × Placeable placement × WithNumerals (take n rows) ⌝ }
-    ensures { λ r. ⌜ RowsPlaced placement (take n rows) (startRule start (now (list .entry))) (now (index .entry)) (now (index .exit)) (now (totals .entry)) (now (totals .exit)) r ⌝ }
+    ensures { λ r. ⌜ RowsPlaced placement (take n rows) (startRule start (now (list .entry))) (now (index .entry)) (now (index .exit)) (now (totals .entry)) (now (totals .exit)) (now (days .entry)) (now (days .exit)) r ⌝ }
 {
     let mut table = [0u32; 512];
     let mut minutes = [0i32; 64];
     let mut keys = [0u64; 64];
     let mut fields = [0u64; 64];
     let mut scratch = [0u64; 64];
+    let mut spans = [0u32; 128];
     let m = 8 * n;
-    ordering::read_rows(rows, &mut minutes[..n], &mut keys[..n], &mut fields[..n]);
+    let dated = dated_rows(placement, n);
+    let d = 2 * dated;
+    ordering::read_rows(
+        rows,
+        dated,
+        &mut minutes[..n],
+        &mut keys[..n],
+        &mut fields[..n],
+        &mut spans[..d],
+    );
     links::prepare(
         start,
         list,
@@ -197,11 +310,13 @@ fn build_few(
     place_nodes(
         placement,
         &minutes[..n],
+        &spans[..d],
         &mut table[..m],
         &mut reached[..n],
         &mut marks[..n],
         index,
         totals,
+        days,
     )
 }
 
@@ -214,17 +329,28 @@ fn build_many(
     list: &[u32],
     index: &mut [u32],
     totals: &mut [i64],
+    days: &mut [u32],
 ) -> Built
     requires { ⌜ (n ≤ 1024) × Placeable placement × WithNumerals (take n rows) ⌝ }
-    ensures { λ r. ⌜ RowsPlaced placement (take n rows) (startRule start (now (list .entry))) (now (index .entry)) (now (index .exit)) (now (totals .entry)) (now (totals .exit)) r ⌝ }
+    ensures { λ r. ⌜ RowsPlaced placement (take n rows) (startRule start (now (list .entry))) (now (index .entry)) (now (index .exit)) (now (totals .entry)) (now (totals .exit)) (now (days .entry)) (now (days .exit)) r ⌝ }
 {
     let mut table = [0u32; 8192];
     let mut minutes = [0i32; 1024];
     let mut keys = [0u64; 1024];
     let mut fields = [0u64; 1024];
     let mut scratch = [0u64; 1024];
+    let mut spans = [0u32; 2048];
     let m = 8 * n;
-    ordering::read_rows(rows, &mut minutes[..n], &mut keys[..n], &mut fields[..n]);
+    let dated = dated_rows(placement, n);
+    let d = 2 * dated;
+    ordering::read_rows(
+        rows,
+        dated,
+        &mut minutes[..n],
+        &mut keys[..n],
+        &mut fields[..n],
+        &mut spans[..d],
+    );
     links::prepare(
         start,
         list,
@@ -238,11 +364,13 @@ fn build_many(
     place_nodes(
         placement,
         &minutes[..n],
+        &spans[..d],
         &mut table[..m],
         &mut reached[..n],
         &mut marks[..n],
         index,
         totals,
+        days,
     )
 }
 
@@ -255,12 +383,13 @@ pub fn build_rows(
     list: &[u32],
     index: &mut [u32],
     totals: &mut [i64],
+    days: &mut [u32],
 ) -> Built
     requires { ⌜ (n ≤ 1024) × Placeable placement × WithNumerals (take n rows) ⌝ }
-    ensures { λ r. ⌜ RowsPlaced placement (take n rows) (startRule start (now (list .entry))) (now (index .entry)) (now (index .exit)) (now (totals .entry)) (now (totals .exit)) r ⌝ }
+    ensures { λ r. ⌜ RowsPlaced placement (take n rows) (startRule start (now (list .entry))) (now (index .entry)) (now (index .exit)) (now (totals .entry)) (now (totals .exit)) (now (days .entry)) (now (days .exit)) r ⌝ }
 {
     if n <= 64 {
-        return build_few(rows, n, placement, start, list, index, totals);
+        return build_few(rows, n, placement, start, list, index, totals, days);
     }
-    build_many(rows, n, placement, start, list, index, totals)
+    build_many(rows, n, placement, start, list, index, totals, days)
 }

@@ -38,3 +38,12 @@ pub fn settle(built: Built, index: &mut [u32], totals: &mut [i64]) -> Built
     lists::clear_i64(totals);
     built
 }
+
+// The same of the days of nodes.
+pub fn settle_days(built: Built, days: &mut [u32])
+    ensures { λ _. ⌜ now (days .exit) ≡ cond (eqb (built .refusal) 0) (now (days .entry)) (replicate (length (now (days .entry))) 0) ⌝ }
+{
+    if built.refusal != 0 {
+        lists::clear(days);
+    }
+}

@@ -8,6 +8,7 @@ ghost use Rattle.sums.specs.Sums.{subtreeAnswer, pathAnswer};
 ghost use Rattle.index_check.specs.IndexCheck.{accepts};
 ghost use Rattle.request.specs.Build.{startRule, builtOf, indexAfter, totalsAfter, byDefault};
 ghost use Rattle.shortest.specs.Shortest.{shortestBuilt, shortestIndex, shortestTotals};
+ghost use Rattle.dated.specs.Dated.{datedBuilt, datedIndex, datedTotals, datedDays};
 ghost use Rattle.levels.specs.Levelled.{levelledBuilt, levelledIndex, levelledTotals};
 ghost use Rattle.history.specs.Encoding.{replayedOf, refusalsOf};
 ghost use Rattle.flowpewter.specs.Spans.{spanOf};
@@ -20,6 +21,7 @@ use history::Replayed;
 use navigate::Listed;
 use options::Depth;
 use request::Start;
+use rows::Days;
 use rows::Row;
 use sums::Summed;
 
@@ -155,6 +157,35 @@ pub extern "C" fn flowpewter_build_shortest(
 {
     let rule = start_of(by_list);
     build::build_shortest(board, rule, list, index, totals)
+}
+
+// The window is the days from `first_day` to `last_day`, both included. Without `has_depth` the depth is ignored, and without `by_list` the list is.
+#[no_mangle]
+pub extern "C" fn flowpewter_build_dated(
+    board: Board,
+    code: u32,
+    has_depth: bool,
+    depth: i32,
+    by_list: bool,
+    list: &[u32],
+    first_day: u32,
+    last_day: u32,
+    index: &mut [u32],
+    totals: &mut [i64],
+    days: &mut [u32],
+) -> Built
+    ensures { λ r. ⌜ r ≡ datedBuilt board code (depthOf «has_depth» depth) (startRule (startOf «by_list») (now (list .entry))) (record { first = «first_day»; last = «last_day» }) (length (now (index .entry))) (length (now (totals .entry))) (length (now (days .entry))) ⌝ }
+    ensures { λ _. ⌜ now (index .exit) ≡ datedIndex board code (depthOf «has_depth» depth) (startRule (startOf «by_list») (now (list .entry))) (record { first = «first_day»; last = «last_day» }) (now (index .entry)) (length (now (totals .entry))) (length (now (days .entry))) ⌝ }
+    ensures { λ _. ⌜ now (totals .exit) ≡ datedTotals board code (depthOf «has_depth» depth) (startRule (startOf «by_list») (now (list .entry))) (record { first = «first_day»; last = «last_day» }) (length (now (index .entry))) (now (totals .entry)) (length (now (days .entry))) ⌝ }
+    ensures { λ _. ⌜ now (days .exit) ≡ datedDays board code (depthOf «has_depth» depth) (startRule (startOf «by_list») (now (list .entry))) (record { first = «first_day»; last = «last_day» }) (length (now (index .entry))) (length (now (totals .entry))) (now (days .entry)) ⌝ }
+{
+    let limit = depth_of(has_depth, depth);
+    let start = start_of(by_list);
+    let window = Days {
+        first: first_day,
+        last: last_day,
+    };
+    build::build_dated(board, code, limit, window, start, list, index, totals, days)
 }
 
 #[no_mangle]

@@ -5,6 +5,7 @@ use mathlib.Core.Bool.{Bool, true, false, cond, not, _&&_, _||_, and-true, and-f
 use mathlib.Core.List.{List}
 use Prim.Native.Nat.{ℕ, _+_, _-_, _*_, _≤_, _<_}
 use native.Mathlib.Omega.{arith}
+use native.Mathlib.Decide.{decLt}
 use borrow.Author.Tests.{eq-eqb, ne-eqb, lt-ltb, le-ltb, ltb-true, ltb-false}
 use lib.Dec.{eqb, ltb}
 use lib.ListN.{length, getD}
@@ -15,7 +16,7 @@ use Rattle.options.specs.declared.Depth.the-variants.{None, Limit}
 use Rattle.built.specs.Room.{refusal9}
 use Rattle.nodes.specs.Refusals.{given, refusal7}
 use Rattle.table.specs.TableLayer.{rowColumn, flagColumn}
-use Rattle.refusals.specs.TestsLayer.{capacityOf, startAt, lacksStart, earlyRefusal}
+use Rattle.refusals.specs.TestsLayer.{capacityOf, datedCapacityOf, startAt, lacksStart, earlyRefusal}
 
 -- ---- 7: a depth is given
 
@@ -43,6 +44,28 @@ capacity-over n words totals a b h = go (ltb 65535 n) refl (ltb words (8 + 6 * n
 pub capacity-bounds : (words totals : ℕ) → 8 ≤ words → (capacityOf words totals ≤ 65535) × (8 + 6 * capacityOf words totals ≤ words) × (capacityOf words totals ≤ totals - 1)
 unfolding capacityOf
 capacity-bounds words totals a = omega arith
+
+-- the same with the days
+
+pub dated-fits : (n words totals days : ℕ) → 8 ≤ words → 1 ≤ totals → n ≤ datedCapacityOf words totals days → (refusal9 n words totals || ltb days (2 * n)) ≡ false
+unfolding datedCapacityOf
+dated-fits n words totals days a b h = ap₂ _||_ (capacity-fits n words totals a b (omega arith)) (le-ltb days (2 * n) (omega arith))
+
+pub dated-over : (n words totals days : ℕ) → 8 ≤ words → 1 ≤ totals → datedCapacityOf words totals days < n → (refusal9 n words totals || ltb days (2 * n)) ≡ true
+unfolding datedCapacityOf
+dated-over n words totals days a b h = go (decLt (capacityOf words totals) n)
+  where
+    either : (x : Bool) → (x || true) ≡ true
+    either true = refl
+    either false = refl
+
+    go : Dec (capacityOf words totals < n) → (refusal9 n words totals || ltb days (2 * n)) ≡ true
+    go (yes lt) = ap (λ (x : Bool). x || ltb days (2 * n)) (capacity-over n words totals a b lt)
+    go (no ge) = ap (λ (x : Bool). refusal9 n words totals || x) (lt-ltb days (2 * n) (omega arith)) ∙ either (refusal9 n words totals)
+
+pub dated-bounds : (words totals days : ℕ) → (datedCapacityOf words totals days ≤ capacityOf words totals) × (2 * datedCapacityOf words totals days ≤ days)
+unfolding datedCapacityOf
+dated-bounds words totals days = omega arith
 
 pub short-index : (n words totals : ℕ) → words < 8 → refusal9 n words totals ≡ true
 short-index n words totals h = go (ltb 65535 n)

@@ -11,6 +11,10 @@ use Rattle.table.specs.TableLayer.{rowColumn, flagColumn}
 unfoldable pub capacityOf : ℕ → ℕ → ℕ
 capacityOf words totals = min 65535 (min ((words - 8) / 6) (totals - 1))
 
+-- the same where each node has two words of the days as well
+unfoldable pub datedCapacityOf : ℕ → ℕ → ℕ → ℕ
+datedCapacityOf words totals days = min (capacityOf words totals) (days / 2)
+
 -- the row at a position is flagged as a start row
 abbrev pub startAt : List ℕ → ℕ → Bool
 startAt t p = eqb (getD (flagColumn t) p 0) 1

@@ -4,7 +4,7 @@ ghost use Prim.Native.Nat.{_≤_, min};
 ghost use lib.ListN.{length};
 ghost use Rattle.nodes.specs.Refusals.{given, refusal7};
 ghost use Rattle.table.specs.TableLayer.{rowColumn};
-ghost use Rattle.refusals.specs.TestsLayer.{capacityOf, lacksStart, earlyRefusal};
+ghost use Rattle.refusals.specs.TestsLayer.{capacityOf, datedCapacityOf, lacksStart, earlyRefusal};
 use options::Depth;
 
 fn smaller(x: usize, y: usize) -> usize
@@ -20,6 +20,15 @@ pub fn capacity(words: usize, totals: usize) -> u32
 {
     let held = smaller((words - 8) / 6, totals - 1);
     smaller(65535, held) as u32
+}
+
+// How many nodes they hold where each has two words of a third slice as well.
+pub fn dated_capacity(words: usize, totals: usize, days: usize) -> u32
+    requires { ⌜ (8 ≤ words) × (1 ≤ totals) ⌝ }
+    ensures { λ r. ⌜ r ≡ datedCapacityOf words totals days ⌝ }
+{
+    let held = capacity(words, totals) as usize;
+    smaller(held, days / 2) as u32
 }
 
 fn is_given(depth: Depth) -> bool

@@ -43,7 +43,7 @@ returns c =
     let q = s .pre .1 .0 in
     λ R start code y e six seven eight.
     nodes-nine R code (s .args .depth) start _ _ _ _ (s .args .choice) e six seven eight _
-    (nodes-over R (s .args .choice .orphan) _ _ _ _ (q .2) (q .3) (q .4) _ _ _ _ refl _ (c .before .before .before .before .before .before .before .before .before .before .before .enumerate .ensures .0 R start (y .prepared) (y .flags-are) (y .numbered)) (c .before .if1 .taken)) (c .refused .ensures)
+    (nodes-over R (s .args .choice .orphan) _ _ _ _ (q .2) (q .3) (omega (arith, q .4)) _ _ _ _ refl _ (c .before .before .before .before .before .before .before .before .before .before .before .enumerate .ensures .0 R start (y .prepared) (y .flags-are) (y .numbered)) (q .4) (c .before .if1 .taken)) (c .refused .ensures)
 
 finish-requires : tie.Need-finish-requires
 finish-requires c κs =
@@ -54,8 +54,8 @@ finish-requires c κs =
     let w = c .before .before .before .before .before .before .before .before .before .before .before .before .before .before .enumerate .ensures .0 (a .R) (a .start) (a .rows .prepared) (a .rows .flags-are) (a .rows .numbered) in
     let n : ℕ = length (rowColumn (s .args .table .now)) in
     let long : length (s .args .reached .now) ≡ n = ap length (s .pre .1 .1 .reached-clear) ∙ length-replicate {A = ℕ} n 0 in (
-      record { R = a .R; bs = _; before = _; written = nodes-written (a .R) (s .args .choice .orphan) _ _ _ _ (q .2) (q .3) (q .4) _ _ _ _ refl _ w (c .before .before .before .before .if1 .left) (bodies-over (a .R) (a .start) (s .args .depth) _) (bodies-named (a .R) (a .start) (s .args .depth) (s .args .choice .orphan)); classes = classes-of (a .R) _ _ (a .rows .prepared) k; minutes-are = a .rows .minutes-are },
-      (c .before .before .before .before .before .before .before .before .before .before .before .reached .given ∙ long ∙ sym (ap length (k .rows-same)), nodes-few (a .R) (s .args .choice .orphan) _ _ _ _ (q .2) (q .3) (q .4) _ _ _ _ refl _ w (c .before .before .before .before .if1 .left)),
+      record { R = a .R; bs = _; before = _; written = nodes-written (a .R) (s .args .choice .orphan) _ _ _ _ (q .2) (q .3) (omega (arith, q .4)) _ _ _ _ refl _ w (c .before .before .before .before .if1 .left) (bodies-over (a .R) (a .start) (s .args .depth) _) (bodies-named (a .R) (a .start) (s .args .depth) (s .args .choice .orphan)); classes = classes-of (a .R) _ _ (a .rows .prepared) k; minutes-are = a .rows .minutes-are },
+      (c .before .before .before .before .before .before .before .before .before .before .before .reached .given ∙ long ∙ sym (ap length (k .rows-same)), nodes-few (a .R) (s .args .choice .orphan) _ _ _ _ (q .2) (q .3) (omega (arith, q .4)) _ _ _ _ refl _ w (c .before .before .before .before .if1 .left)),
     )
 
 same-length-5 : tie.Need-same-length-5
@@ -85,8 +85,8 @@ returns-2 c =
     λ R start code y e six seven eight.
     let w = c .before .before .before .before .before .before .before .before .before .before .before .before .before .before .before .before .before .before .before .before .before .before .enumerate .ensures .0 R start (y .prepared) (y .flags-are) (y .numbered) in
     nodes-finished R code (s .args .depth) start _ _ _ _ (s .args .choice) e six seven eight _
-    (nodes-fit R (s .args .choice .orphan) _ _ _ _ (q .2) (q .3) (q .4) _ _ _ _ refl _ w (c .before .before .before .before .before .before .before .before .before .before .before .before .if1 .left))
-    (c .before .before .before .before .before .before .before .finish .ensures R _ _ (nodes-written R (s .args .choice .orphan) _ _ _ _ (q .2) (q .3) (q .4) _ _ _ _ refl _ w (c .before .before .before .before .before .before .before .before .before .before .before .before .if1 .left) (bodies-over R start (s .args .depth) _) (bodies-named R start (s .args .depth) (s .args .choice .orphan))) (none-left R start (s .args .depth) code (s .args .choice) e (q .1) eight) (classes-of R _ _ (y .prepared) (c .before .before .before .before .before .before .before .before .before .before .before .before .before .before .before .before .before .before .before .before .before .before .enumerate .ensures .1)) (y .minutes-are))
+    (nodes-fit R (s .args .choice .orphan) _ _ _ _ (q .2) (q .3) (omega (arith, q .4)) _ _ _ _ refl _ w (c .before .before .before .before .before .before .before .before .before .before .before .before .if1 .left))
+    (c .before .before .before .before .before .before .before .finish .ensures R _ _ (nodes-written R (s .args .choice .orphan) _ _ _ _ (q .2) (q .3) (omega (arith, q .4)) _ _ _ _ refl _ w (c .before .before .before .before .before .before .before .before .before .before .before .before .if1 .left) (bodies-over R start (s .args .depth) _) (bodies-named R start (s .args .depth) (s .args .choice .orphan))) (none-left R start (s .args .depth) code (s .args .choice) e (q .1) eight) (classes-of R _ _ (y .prepared) (c .before .before .before .before .before .before .before .before .before .before .before .before .before .before .before .before .before .before .before .before .before .before .enumerate .ensures .1)) (y .minutes-are))
 
 pub write-nodes-spec : {M : Type 1} → statement M
 write-nodes-spec =

@@ -40,7 +40,7 @@ returns c =
     let q = s .pre .1 .0 in
     λ R start y.
     shortest-nine R start _ _ _ _ _
-    (nodes-over R 0 _ _ _ _ (q .0) (q .1) (q .2) _ _ _ _ refl _ (c .before .before .before .before .before .before .before .before .before .before .before .walk-shortest .ensures .0 R start (y .prepared) (y .flags-are) (y .numbered)) (c .before .if1 .taken)) (c .refused .ensures)
+    (nodes-over R 0 _ _ _ _ (q .0) (q .1) (omega (arith, q .2)) _ _ _ _ refl _ (c .before .before .before .before .before .before .before .before .before .before .before .walk-shortest .ensures .0 R start (y .prepared) (y .flags-are) (y .numbered)) (q .2) (c .before .if1 .taken)) (c .refused .ensures)
 
 finish-requires : tie.Need-finish-requires
 finish-requires c κs =
@@ -51,8 +51,8 @@ finish-requires c κs =
     let w = c .before .before .before .before .before .before .before .before .before .before .before .before .before .before .walk-shortest .ensures .0 (a .R) (a .start) (a .rows .prepared) (a .rows .flags-are) (a .rows .numbered) in
     let n : ℕ = length (rowColumn (s .args .table .now)) in
     let long : length (s .args .reached .now) ≡ n = ap length (s .pre .1 .1 .reached-clear) ∙ length-replicate {A = ℕ} n 0 in (
-      record { R = a .R; bs = _; before = _; written = nodes-written (a .R) 0 _ _ _ _ (q .0) (q .1) (q .2) _ _ _ _ refl _ w (c .before .before .before .before .if1 .left) (shortest-over (a .R) (a .start)) (λ h. shortest-named (a .R) (a .start)); classes = classes-of (a .R) _ _ (a .rows .prepared) k; minutes-are = a .rows .minutes-are },
-      (c .before .before .before .before .before .before .before .before .before .before .before .reached .given ∙ long ∙ sym (ap length (k .rows-same)), nodes-few (a .R) 0 _ _ _ _ (q .0) (q .1) (q .2) _ _ _ _ refl _ w (c .before .before .before .before .if1 .left)),
+      record { R = a .R; bs = _; before = _; written = nodes-written (a .R) 0 _ _ _ _ (q .0) (q .1) (omega (arith, q .2)) _ _ _ _ refl _ w (c .before .before .before .before .if1 .left) (shortest-over (a .R) (a .start)) (λ h. shortest-named (a .R) (a .start)); classes = classes-of (a .R) _ _ (a .rows .prepared) k; minutes-are = a .rows .minutes-are },
+      (c .before .before .before .before .before .before .before .before .before .before .before .reached .given ∙ long ∙ sym (ap length (k .rows-same)), nodes-few (a .R) 0 _ _ _ _ (q .0) (q .1) (omega (arith, q .2)) _ _ _ _ refl _ w (c .before .before .before .before .if1 .left)),
     )
 
 same-length-5 : tie.Need-same-length-5
@@ -77,8 +77,8 @@ returns-2 c =
     λ R start y.
     let w = c .before .before .before .before .before .before .before .before .before .before .before .before .before .before .before .before .before .before .before .before .before .before .walk-shortest .ensures .0 R start (y .prepared) (y .flags-are) (y .numbered) in
     shortest-finished R start _ _ _ _ _
-    (nodes-fit R 0 _ _ _ _ (q .0) (q .1) (q .2) _ _ _ _ refl _ w (c .before .before .before .before .before .before .before .before .before .before .before .before .if1 .left))
-    (c .before .before .before .before .before .before .before .finish .ensures R _ _ (nodes-written R 0 _ _ _ _ (q .0) (q .1) (q .2) _ _ _ _ refl _ w (c .before .before .before .before .before .before .before .before .before .before .before .before .if1 .left) (shortest-over R start) (λ h. shortest-named R start)) (λ h. absurd (omega (arith, h))) (classes-of R _ _ (y .prepared) (c .before .before .before .before .before .before .before .before .before .before .before .before .before .before .before .before .before .before .before .before .before .before .walk-shortest .ensures .1)) (y .minutes-are))
+    (nodes-fit R 0 _ _ _ _ (q .0) (q .1) (omega (arith, q .2)) _ _ _ _ refl _ w (c .before .before .before .before .before .before .before .before .before .before .before .before .if1 .left))
+    (c .before .before .before .before .before .before .before .finish .ensures R _ _ (nodes-written R 0 _ _ _ _ (q .0) (q .1) (omega (arith, q .2)) _ _ _ _ refl _ w (c .before .before .before .before .before .before .before .before .before .before .before .before .if1 .left) (shortest-over R start) (λ h. shortest-named R start)) (λ h. absurd (omega (arith, h))) (classes-of R _ _ (y .prepared) (c .before .before .before .before .before .before .before .before .before .before .before .before .before .before .before .before .before .before .before .before .before .before .walk-shortest .ensures .1)) (y .minutes-are))
 
 pub write-shortest-spec : {M : Type 1} → statement M
 write-shortest-spec =

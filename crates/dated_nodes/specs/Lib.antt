@@ -1,0 +1,3 @@
+pub mod DatedNodesLayer
+pub mod DaysPassLaws
+pub mod WalkedDatedLaws

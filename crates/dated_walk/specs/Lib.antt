@@ -1,0 +1,2 @@
+pub mod DatedWalkLayer
+pub mod KeptDaysLaws
