@@ -76,6 +76,15 @@ module _ (kind : NodeKind) where
 abbrev pub NoRoom : ℕ → ℕ → ℕ → Type 0
 NoRoom words totals n = (65535 < n) ⊎ ((words < 8 + 6 * n) ⊎ (totals < n + 1))
 
+-- sentence 10, over the list W of the nodes: "Cycle is 1 and a node closes."
+abbrev pub SomeCloses : NodeKind → ℕ → List (List ℕ) → Type 0
+SomeCloses kind cycle W = (cycle ≡ 1) × ((p : List ℕ) × (p ∈ W) × kind .Closing p)
+
+-- sentence 11: "Multi is 2 and two nodes share a numeral, or multi is 1 and a node of tree size above 1 shares its numeral."
+abbrev pub SomeShare : NodeKind → ℕ → List (List ℕ) → Type 0
+SomeShare kind multi W =
+    ((multi ≡ 2) × ((p : List ℕ) × (p ∈ W) × Shares kind W p)) ⊎ ((multi ≡ 1) × ((p : List ℕ) × (p ∈ W) × (1 < treeSize W p) × Shares kind W p))
+
 -- "a refused build zeroes both slices and its two counts"; so all navigation on them is refused 13
 pub record Refused (answer : Built) (before index : List ℕ) (unwritten totals : List ℤ) : Type 0 where
   pub n : answer .nodes ≡ 0

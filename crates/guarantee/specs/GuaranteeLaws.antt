@@ -15,11 +15,13 @@ use Rattle.guarantee.specs.KindLaws.{sound-first}
 use Rattle.guarantee.specs.PathBuilds.{BuildOn, RowsFit}
 use Rattle.guarantee.specs.DefaultBuilds.{LeavesNone}
 use Rattle.guarantee.specs.ShortestBuilds.{ShortestOn}
-use Rattle.guarantee.specs.Guarantee.{SoundBuild, SoundDefault, SoundShortest, Guarantee}
+use Rattle.guarantee.specs.DatedBuilds.{DatedOn}
+use Rattle.guarantee.specs.Guarantee.{SoundBuild, SoundDefault, SoundShortest, SoundDated, Guarantee}
 use Rattle.guarantee.specs.MinutesLaws.{rows-fit}
 use Rattle.guarantee.specs.PathBuildLaws.{sound-few, build-on}
 use Rattle.guarantee.specs.DefaultBuildLaws.{default-on}
 use Rattle.guarantee.specs.ShortestBuildLaws.{shortest-on}
+use Rattle.guarantee.specs.DatedBuildLaws.{dated-on}
 use Rattle.guarantee.specs.LevelledBuildLaws.{levelled-build}
 
 pub sound-build : (b : Board) → SoundBuild b
@@ -41,13 +43,23 @@ shortest-of b sound fits f = shortest-on b sound (sound-few b sound) fits (λ g 
 pub sound-shortest : (b : Board) → SoundShortest b
 sound-shortest b sound = shortest-of b sound (RowsFit (rowsOf b)) (λ f. f)
 
+dated-of : (b : Board) → soundOf b ≡ true → (fits : Type 0) → (fits → RowsFit (rowsOf b)) → DatedOn b (rowsOf b) fits
+dated-of b sound fits f = dated-on b sound (sound-few b sound) fits (λ g r i. f g r i .sfits)
+
+pub sound-dated : (b : Board) → SoundDated b
+sound-dated b sound = dated-of b sound (RowsFit (rowsOf b)) (λ f. f)
+
 -- ---- every list of calls
+
+-- the minutes of the board's rows after them
+final-fit : (cs : List Call) → AllFit cs → RowsFit (rowsOf (final emptyOf cs))
+final-fit cs g = subst RowsFit (sym (final-rows cs)) (rows-fit cs g)
 
 -- any build over all paths after them
 built : (cs : List Call) → BuildOn (final emptyOf cs) (after start cs .rows) (AllFit cs)
 built cs =
     subst (λ R. BuildOn (final emptyOf cs) R (AllFit cs)) (final-rows cs)
-    (build-on (final emptyOf cs) (final-sound cs) (AllFit cs) (λ g. subst RowsFit (sym (final-rows cs)) (rows-fit cs g)))
+    (build-on (final emptyOf cs) (final-sound cs) (AllFit cs) (final-fit cs))
 
 pub guarantee : (cs : List Call) → Guarantee cs
 guarantee cs = record {
@@ -55,6 +67,8 @@ guarantee cs = record {
   build = built cs;
   by-default = default-on (final emptyOf cs) (built cs);
   shortest = subst (λ R. ShortestOn (final emptyOf cs) R (AllFit cs)) (final-rows cs)
-      (shortest-of (final emptyOf cs) (final-sound cs) (AllFit cs) (λ g. subst RowsFit (sym (final-rows cs)) (rows-fit cs g)));
+      (shortest-of (final emptyOf cs) (final-sound cs) (AllFit cs) (final-fit cs));
+  dated = subst (λ R. DatedOn (final emptyOf cs) R (AllFit cs)) (final-rows cs)
+      (dated-of (final emptyOf cs) (final-sound cs) (AllFit cs) (final-fit cs));
   levelled = levelled-build;
 }

@@ -13,6 +13,7 @@ use Rattle.lists.specs.MemberLaws.{append-out, take-in, drop-in, set-out}
 use Rattle.rows.specs.declared.Row.{Row}
 use Rattle.rows.specs.declared.Call.{Call}
 use Rattle.rows.specs.declared.Call.the-variants.{Add, Withdraw, Remark, Undo, Redo}
+use Rattle.rows.specs.Days.{firstAfterLast}
 use Rattle.rows.specs.Journal.{blank, noRow, remarked}
 use Rattle.machine.specs.Machine.{Machine, Answer, gives, changes, goesBack, goesForward, answer, after, start}
 use Rattle.machine.specs.Calls.{MinutesFit, AllFit}
@@ -49,7 +50,8 @@ without-fits R k h r i = ⊎-elim (λ j. h r (take-in k R r j)) (λ j. h r (drop
 step-fits : (m : Machine) (c : Call) → MachineFits m → MinutesFit c → MachineFits (answer m c .machine)
 step-fits m (Add r) h f =
     either-fits (eqb (r .numeral) 0) (gives 2 m) _ h
-    (either-fits (leb 1024 (length (m .rows))) (gives 3 m) (changes m (m .rows ++ (r ∷ []))) h (changes-fits m (m .rows ++ (r ∷ [])) h added))
+    (either-fits (firstAfterLast (r .days)) (gives 20 m) _ h
+    (either-fits (leb 1024 (length (m .rows))) (gives 3 m) (changes m (m .rows ++ (r ∷ []))) h (changes-fits m (m .rows ++ (r ∷ [])) h added)))
   where
     added : RowsFit (m .rows ++ (r ∷ []))
     added x i =

@@ -16,7 +16,7 @@ use Rattle.board.specs.declared.Board.{Board}
 use Rattle.board.specs.Edits.{soundOf}
 use Rattle.options.specs.declared.Depth.{Depth}
 use Rattle.options.specs.Options.{orphanOf, multiOf, cycleOf}
-use Rattle.forest.specs.Nodes.{init, last, head, treeSize}
+use Rattle.forest.specs.Nodes.{init, last, head}
 use Rattle.paths.specs.Rows.{num, RowOf}
 use Rattle.paths.specs.Paths.{closes, Orphan, Regular, Unreached, TopOrphan}
 use Rattle.paths.specs.Paths as paths
@@ -28,7 +28,7 @@ use Rattle.answers.specs.Answers.{First, noOther}
 use Rattle.request.specs.declared.Start.{Start}
 use Rattle.built.specs.declared.Built.{Built}
 use Rattle.request.specs.Build.{startRule, builtOf, indexAfter, totalsAfter}
-use Rattle.guarantee.specs.Builds.{NodeKind, Shares, NoRoom, Refused, Build}
+use Rattle.guarantee.specs.Builds.{NodeKind, NoRoom, SomeCloses, SomeShare, Refused, Build}
 
 -- ---- the nodes over the rows R, and what their bodies say
 
@@ -77,10 +77,8 @@ module _ (R : List Row) (code : ℕ) (depth : Depth) (starts : Row → Bool) whe
         -- "Adopt meets a top orphan and there is no start row."; it "then counts islands too"
         (First ((orphanOf code ≡ 2) × (((x : ℕ) × TopOrphan R starts depth x) ⊎ ((x : ℕ) × Island R starts es 0 x)) × ((x : ℕ) → RowOf R x → paths.Start R starts x → ⊥)) 8
         (First (NoRoom words totals (length W)) 9
-        -- "Cycle is 1 and a node closes."
-        (First ((cycleOf code ≡ 1) × ((p : List ℕ) × (p ∈ W) × buildNodes .Closing p)) 10
-        -- "Multi is 2 and two nodes share a numeral, or multi is 1 and a node of tree size above 1 shares its numeral."
-        (First (((multiOf code ≡ 2) × ((p : List ℕ) × (p ∈ W) × Shares buildNodes W p)) ⊎ ((multiOf code ≡ 1) × ((p : List ℕ) × (p ∈ W) × (1 < treeSize W p) × Shares buildNodes W p))) 11
+        (First (SomeCloses buildNodes (cycleOf code) W) 10
+        (First (SomeShare buildNodes (multiOf code) W) 11
         -- "Orphan is 1 and U isn't empty."
         (First ((orphanOf code ≡ 1) × ((x : ℕ) × Unreached R starts depth x)) 12 noOther))))))
 

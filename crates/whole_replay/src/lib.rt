@@ -3,14 +3,14 @@ ghost use mathlib.Core.Path.{_≡_};
 ghost use lib.ListN.{length};
 ghost use Rattle.history.specs.Encoding.{decoded, replayedOf, refusalsOf};
 ghost use Rattle.request.specs.Build.{startRule};
-ghost use Rattle.whole_replay.specs.Running.{notReplayed, replayAllAnswer, indexLeft, totalsLeft, outLeft, Demand3};
+ghost use Rattle.whole_replay.specs.Running.{notReplayed, replayAllAnswer, indexLeft, totalsLeft, daysLeft, outLeft, Demand3};
 use build::Asked;
 use built::Built;
 use navigate::Listed;
 use request::Start;
 use sums::Summed;
 
-// What is to be built: all paths or the shortest, and the start rule.
+// What is to be built: all paths, the shortest, or those with days left in a window, and the start rule.
 pub struct BuildOptions {
     pub asked: Asked,
     pub start: Start,
@@ -74,15 +74,17 @@ pub fn replay_all(
     list: &[u32],
     index: &mut [u32],
     totals: &mut [i64],
+    days: &mut [u32],
     question: Question,
     out: &mut [u32],
 ) -> ReplayedAll
-    ensures { λ r. ⌜ r ≡ replayAllAnswer (replayedOf (now (words .entry)) (length (now (refusals .entry)))) (options .asked) (startRule (options .start) (now (list .entry))) (now (index .entry)) (now (totals .entry)) (question .rank) (question .lower) (question .upper) (now (out .entry)) ⌝ }
+    ensures { λ r. ⌜ r ≡ replayAllAnswer (replayedOf (now (words .entry)) (length (now (refusals .entry)))) (options .asked) (startRule (options .start) (now (list .entry))) (now (index .entry)) (now (totals .entry)) (now (days .entry)) (question .rank) (question .lower) (question .upper) (now (out .entry)) ⌝ }
     ensures { λ _. ⌜ now (refusals .exit) ≡ refusalsOf (now (words .entry)) (now (refusals .entry)) ⌝ }
-    ensures { λ _. ⌜ now (index .exit) ≡ indexLeft (replayedOf (now (words .entry)) (length (now (refusals .entry)))) (options .asked) (startRule (options .start) (now (list .entry))) (now (index .entry)) (now (totals .entry)) ⌝ }
-    ensures { λ _. ⌜ now (totals .exit) ≡ totalsLeft (replayedOf (now (words .entry)) (length (now (refusals .entry)))) (options .asked) (startRule (options .start) (now (list .entry))) (now (index .entry)) (now (totals .entry)) ⌝ }
-    ensures { λ _. ⌜ now (out .exit) ≡ outLeft (replayedOf (now (words .entry)) (length (now (refusals .entry)))) (options .asked) (startRule (options .start) (now (list .entry))) (now (index .entry)) (now (totals .entry)) (question .rank) (question .lower) (question .upper) (now (out .entry)) ⌝ }
-    ensures { λ r. ⌜ (r .replayed ≡ 0 → Demand3 (decoded (now (words .entry))) (now (refusals .entry)) (options .asked) (options .start) (now (list .entry)) (now (index .entry)) (now (totals .entry)) (question .rank) (question .lower) (question .upper) (now (out .entry)) r (now (refusals .exit)) (now (index .exit)) (now (totals .exit)) (now (out .exit))) ⌝ }
+    ensures { λ _. ⌜ now (index .exit) ≡ indexLeft (replayedOf (now (words .entry)) (length (now (refusals .entry)))) (options .asked) (startRule (options .start) (now (list .entry))) (now (index .entry)) (now (totals .entry)) (now (days .entry)) ⌝ }
+    ensures { λ _. ⌜ now (totals .exit) ≡ totalsLeft (replayedOf (now (words .entry)) (length (now (refusals .entry)))) (options .asked) (startRule (options .start) (now (list .entry))) (now (index .entry)) (now (totals .entry)) (now (days .entry)) ⌝ }
+    ensures { λ _. ⌜ now (days .exit) ≡ daysLeft (replayedOf (now (words .entry)) (length (now (refusals .entry)))) (options .asked) (startRule (options .start) (now (list .entry))) (now (index .entry)) (now (totals .entry)) (now (days .entry)) ⌝ }
+    ensures { λ _. ⌜ now (out .exit) ≡ outLeft (replayedOf (now (words .entry)) (length (now (refusals .entry)))) (options .asked) (startRule (options .start) (now (list .entry))) (now (index .entry)) (now (totals .entry)) (now (days .entry)) (question .rank) (question .lower) (question .upper) (now (out .entry)) ⌝ }
+    ensures { λ r. ⌜ (r .replayed ≡ 0 → Demand3 (decoded (now (words .entry))) (now (refusals .entry)) (options .asked) (options .start) (now (list .entry)) (now (index .entry)) (now (totals .entry)) (now (days .entry)) (question .rank) (question .lower) (question .upper) (now (out .entry)) r (now (refusals .exit)) (now (index .exit)) (now (totals .exit)) (now (days .exit)) (now (out .exit))) ⌝ }
 {
     let done = history::replay(words, refusals);
     let replayed = done.refusal;
@@ -96,7 +98,7 @@ pub fn replay_all(
     let count = board.count;
     let asked = options.asked;
     let start = options.start;
-    let built = build::build_asked(board, asked, start, list, index, totals);
+    let built = build::build_asked(board, asked, start, list, index, totals, days);
     let rank = question.rank;
     let lower = question.lower;
     let upper = question.upper;
