@@ -14,14 +14,14 @@ pub fn any_entry(random: &mut Random) -> Entry {
 }
 
 /// A board with the given numbers: held rows with numeral 1 or more, many of
-/// which tie with the one before, noise in all other words, numeral 0 and bad
-/// entries among them.
+/// which tie with the one before, and any days; noise in all other words,
+/// numeral 0 and bad entries among them.
 pub fn noisy_board(random: &mut Random, count: usize, kept: usize, undone: usize) -> Board {
     let mut board = Board::EMPTY;
     let mut last = random.row();
     for (place, row) in board.rows.iter_mut().enumerate() {
         last = random.row_beside(last);
-        *row = if place < count { last } else { random.any_row() };
+        *row = if place < count { random.with_any_days(last) } else { random.any_row() };
     }
     for entry in board.journal.iter_mut() {
         *entry = any_entry(random);
@@ -74,7 +74,7 @@ pub fn bare_board(rows: &[Row]) -> Board {
 /// orders below `orders`.
 pub fn small_boards(most: u32, orders: u32) -> impl Iterator<Item = Vec<Row>> {
     let kinds = 4 * 3 * orders;
-    let row = |kind: u32| Row::new(kind % 4, kind / 4 % 3 + 1, kind / 12, 1 << kind);
+    let row = |kind: u32| Row::undated(kind % 4, kind / 4 % 3 + 1, kind / 12, 1 << kind);
     (0..=most).flat_map(move |count| {
         let nth =
             move |number| (0..count).map(|place| row(number / kinds.pow(place) % kinds)).collect();
@@ -155,9 +155,10 @@ fn bad_entry(random: &mut Random, count: usize) -> Entry {
     }
 }
 
-/// An entry of the kind for the place, with a row of numeral 1 or more.
+/// An entry of the kind for the place, with a row of numeral 1 or more and any days.
 fn with_a_row(random: &mut Random, kind: u32, at: usize) -> Entry {
-    Entry { kind, at: at as u32, row: random.row() }
+    let row = random.row();
+    Entry { kind, at: at as u32, row: random.with_any_days(row) }
 }
 
 /// An entry of the kind for the place, with a row of numeral 0.

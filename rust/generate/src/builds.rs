@@ -227,7 +227,8 @@ pub fn rows(random: &mut Random, shape: Shape, size: usize) -> Vec<Row> {
 }
 
 /// Rows of the edges, mostly with orders below one of the numbers. Labels are the
-/// numbers themselves, or far apart up to the widest word.
+/// numbers themselves, or far apart up to the widest word. In every other case the rows
+/// have days, which only dated builds read.
 pub(crate) fn rows_of(random: &mut Random, orders: &[usize], edges: Vec<(u32, u32)>) -> Vec<Row> {
     let far = random.chance(1, 2);
     let label = |number: u32| match number {
@@ -236,6 +237,7 @@ pub(crate) fn rows_of(random: &mut Random, orders: &[usize], edges: Vec<(u32, u3
         number => number,
     };
     let orders = random.pick(orders);
+    let dated = random.beside().chance(1, 2);
     // Where all minutes are the same, rows of one parent, numeral and order are equal in all fields.
     let same_minutes = random.chance(1, 4).then(|| random.minutes());
     let mut rows: Vec<Row> = edges
@@ -244,7 +246,12 @@ pub(crate) fn rows_of(random: &mut Random, orders: &[usize], edges: Vec<(u32, u3
             let order =
                 if random.chance(1, 20) { random.word() } else { random.below(orders) as u32 };
             let minutes = same_minutes.unwrap_or_else(|| random.minutes());
-            Row::new(label(parent), label(numeral), order, minutes)
+            let row = Row::undated(label(parent), label(numeral), order, minutes);
+            if dated {
+                random.with_days(row)
+            } else {
+                row
+            }
         })
         .collect();
     if random.chance(1, 8) {
@@ -469,17 +476,17 @@ pub fn large_case(random: &mut Random, nodes: usize) -> BuildCase {
     let b = 65_500 / a - 1;
     let mut rows = Vec::new();
     for _ in 0..a {
-        rows.push(Row::new(0, 1, random.below(9) as u32, random.minutes()));
+        rows.push(Row::undated(0, 1, random.below(9) as u32, random.minutes()));
     }
     for _ in 0..b {
-        rows.push(Row::new(1, 2, random.below(9) as u32, random.minutes()));
+        rows.push(Row::undated(1, 2, random.below(9) as u32, random.minutes()));
     }
     let code = random.pick(&[0, 1, 2, 3, 12, 14, 15]);
     let orphans = code % 4 >= 2 && random.chance(2, 3);
     let parent = if orphans { 7 } else { 0 };
     while a * (b + 1) + (rows.len() - a - b) < nodes {
         let numeral = 100_000 + rows.len() as u32;
-        rows.push(Row::new(parent, numeral, random.below(9) as u32, random.minutes()));
+        rows.push(Row::undated(parent, numeral, random.below(9) as u32, random.minutes()));
     }
     random.shuffle(&mut rows);
     let index = random.noise(CONTENTS + BODY * 65_536);
@@ -510,7 +517,7 @@ pub fn large_island_case(random: &mut Random, nodes: usize) -> BuildCase {
     let rows = edges
         .into_iter()
         .map(|(parent, numeral)| {
-            Row::new(parent, numeral, random.below(9) as u32, random.minutes())
+            Row::undated(parent, numeral, random.below(9) as u32, random.minutes())
         })
         .collect();
     let code = random.pick(&[2, 3]);

@@ -1,6 +1,7 @@
 //! Random lists of edit calls, from an empty board and on boards made by hand.
 
-use crate::builds::{rows, size, Shape};
+use crate::builds::{rows, size, Shape, SHAPES};
+use crate::dated::{dated, DATINGS};
 use crate::random::Random;
 use reference::{Call, Machine, Row, MAX_KEPT, MAX_ROWS, MAX_UNDONE};
 
@@ -23,11 +24,21 @@ pub enum History {
     /// Rows with rings, added one by one; then calls by which rings are opened and
     /// closed again: withdrawals, rows that lead back, undos and redos.
     Islands,
+    /// Rows with days of a kind, added one by one, some of them refused before by
+    /// their days; then withdrawals, remarks, undos and redos.
+    Dated,
 }
 
 /// All kinds.
-pub const HISTORIES: [History; 6] =
-    [History::Small, History::Deep, History::Full, History::Wild, History::Runs, History::Islands];
+pub const HISTORIES: [History; 7] = [
+    History::Small,
+    History::Deep,
+    History::Full,
+    History::Wild,
+    History::Runs,
+    History::Islands,
+    History::Dated,
+];
 
 /// Calls made so far, with the row count and the row counts of the kept and of
 /// the undone steps, newest last.
@@ -38,10 +49,15 @@ struct Writer {
     undone: Vec<usize>,
 }
 
-/// The row that a call adds, where it has a numeral.
+/// Whether an add takes the row, where there is a place for it.
+fn is_taken(row: &Row) -> bool {
+    row.numeral != 0 && row.first_day <= row.last_day
+}
+
+/// The row that a call adds, where it is taken.
 fn added(call: &Call) -> Option<Row> {
     match call {
-        Call::Add(row) if row.numeral != 0 => Some(*row),
+        Call::Add(row) if is_taken(row) => Some(*row),
         _ => None,
     }
 }
@@ -66,7 +82,7 @@ impl Writer {
         self.calls.push(call);
         match call {
             Call::Add(row) => {
-                if row.numeral != 0 && self.count < MAX_ROWS {
+                if is_taken(&row) && self.count < MAX_ROWS {
                     self.change(self.count + 1);
                 }
             }
@@ -181,11 +197,24 @@ impl Writer {
         }
     }
 
-    /// A call that refusals 2 to 4 hit: numeral 0, number 0, number above the count.
+    /// A row that refusals 2 and 20 hit: numeral 0, the first day after the last, or both.
+    fn refused_row(&self, random: &mut Random) -> Row {
+        let row = random.row();
+        let mut own = random.beside();
+        let days = own.backward_days();
+        match own.below(4) {
+            0 => Row { numeral: 0, ..row },
+            1 => Row { numeral: 0, ..row }.on(days.first, days.last),
+            _ => row.on(days.first, days.last),
+        }
+    }
+
+    /// A call that refusals 2 to 4 and 20 hit: a row that isn't taken, number 0, number above the
+    /// count.
     fn refused(&mut self, random: &mut Random) {
         let above = self.count + 1 + random.below(3);
         let call = match random.below(6) {
-            0 => Call::Add(Row { numeral: 0, ..random.row() }),
+            0 => Call::Add(self.refused_row(random)),
             1 => Call::Withdraw(0),
             2 => Call::Withdraw(above),
             3 => Call::Remark(0, random.minutes()),
@@ -292,6 +321,21 @@ pub fn history(random: &mut Random, kind: History) -> Vec<Call> {
                     0 => writer.call(Call::Add(writer.row_back(random))),
                     _ => writer.weighted(random, [0, 3, 1, 3, 2]),
                 }
+            }
+        }
+        History::Dated => {
+            let (shape, dating) = (random.pick(&SHAPES), random.pick(&DATINGS));
+            let size = size(random);
+            let plain = rows(random, shape, size);
+            for row in dated(random, dating, &plain) {
+                if random.chance(1, 8) {
+                    let days = random.backward_days();
+                    writer.call(Call::Add(row.on(days.first, days.last)));
+                }
+                writer.call(Call::Add(row));
+            }
+            for _ in 0..random.below(12) {
+                writer.weighted(random, [0, 3, 1, 3, 2]);
             }
         }
     }

@@ -154,7 +154,7 @@ fn equal_rows(rows: &[Row], entry: &Entered) -> bool {
     let numbers = entry.rows();
     let fields = |k: &u32| {
         let row = rows[*k as usize - 1];
-        (row.parent, row.numeral, row.order, row.minutes)
+        (row.parent, row.numeral, row.order, row.minutes, row.first_day, row.last_day)
     };
     numbers.iter().map(fields).collect::<HashSet<_>>().len() < numbers.len()
 }

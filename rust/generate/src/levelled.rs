@@ -263,10 +263,12 @@ pub fn facts(case: &LevelledCase, index: &[u32]) -> [bool; FACTS.len()] {
     let lines: Vec<&[u32]> = case.cells.chunks(case.width as usize).collect();
     let any = |test: &dyn Fn(&[u32]) -> bool| lines.iter().any(|line| test(line));
     let blank = |line: &[u32]| trimmed(line).is_empty();
-    let distinct: HashSet<&[u32]> = lines.iter().copied().collect();
+    let mut met = HashSet::new();
+    let distinct: Vec<&[u32]> = lines.iter().copied().filter(|line| met.insert(*line)).collect();
+    // The first 60 do: so the counts are the same in each run.
+    let few = &distinct[..distinct.len().min(60)];
     let pair = |test: &dyn Fn(&[u32], &[u32]) -> bool| {
-        let list: Vec<&[u32]> = distinct.iter().copied().take(60).collect();
-        list.iter().any(|a| list.iter().any(|b| a != b && test(a, b)))
+        few.iter().any(|a| few.iter().any(|b| a != b && test(a, b)))
     };
     let n = index[0] as usize;
     let bodies = index[CONTENTS..CONTENTS + BODY * n].chunks(BODY);

@@ -1,5 +1,5 @@
-//! Deterministic random cases for boards, builds, shortest placements, levelled lists,
-//! navigation, the index check and the listing program.
+//! Deterministic random cases for boards, builds, shortest placements, dated builds, levelled
+//! lists, navigation, the index check and the listing program.
 //!
 //! Every generator is a plain function of a [`Random`]; the same seed gives the
 //! same cases. The reference is used only to learn how long a slice a case
@@ -8,12 +8,13 @@
 //!
 //! [`ties`] tells which siblings of a built index have equal orders, [`islands`] which
 //! entries were made for rings, [`shortest`] what other rows and paths a placed numeral
-//! has, and [`levelled`] where lists have blanks and equal lines, so that tests can count
-//! what their cases reach.
+//! has, [`dated`] which rows a window or other rows' days cut off, and [`levelled`] where
+//! lists have blanks and equal lines, so that tests can count what their cases reach.
 #![forbid(unsafe_code)]
 
 pub mod boards;
 pub mod builds;
+pub mod dated;
 pub mod histories;
 pub mod indexes;
 pub mod islands;
@@ -29,6 +30,7 @@ pub use builds::{
     build_case, build_case_of, default_case, default_case_of, island_case, island_case_of, rows,
     BuildCase, Shape, SHAPES,
 };
+pub use dated::{dated_case, small_dated_boards, DatedCase};
 pub use histories::{history, history_on, History, HISTORIES};
 pub use indexes::{index, navigation_case, totals, NavigationCase};
 pub use levelled::{levelled_case, LevelledCase};

@@ -1,6 +1,6 @@
 //! A small deterministic random generator (splitmix64) and single values.
 
-use reference::Row;
+use reference::{Days, Row};
 
 /// The generator.
 #[derive(Clone, Debug)]
@@ -103,9 +103,49 @@ impl Random {
         }
     }
 
-    /// A row with numeral 1 or more.
+    /// A generator for days. It leaves this one as it is, so that all other words of a case are the
+    /// same with days and without.
+    pub(crate) fn beside(&self) -> Random {
+        Random::new(self.state ^ 0x6461_7973)
+    }
+
+    /// Two words as days, in order.
+    pub fn any_days(&mut self) -> Days {
+        let (one, other) = (self.word(), self.word());
+        Days::new(one.min(other), one.max(other))
+    }
+
+    /// Days of which the first is after the last: by one mostly.
+    pub fn backward_days(&mut self) -> Days {
+        let first = self.word().max(1);
+        let last = if self.chance(2, 3) { first - 1 } else { self.draw() as u32 % first };
+        Days::new(first, last)
+    }
+
+    /// The row with days that an add takes: in one of two cases those of a row without.
+    pub(crate) fn with_days(&self, row: Row) -> Row {
+        let mut random = self.beside();
+        if random.chance(1, 2) {
+            return row;
+        }
+        let days = random.any_days();
+        row.on(days.first, days.last)
+    }
+
+    /// The row with any days: in one of four cases the first is after the last.
+    pub(crate) fn with_any_days(&self, row: Row) -> Row {
+        let mut random = self.beside();
+        if random.chance(3, 4) {
+            return self.with_days(row);
+        }
+        let days = random.backward_days();
+        row.on(days.first, days.last)
+    }
+
+    /// A row that an add takes, but for the number of rows.
     pub fn row(&mut self) -> Row {
-        Row::new(self.word(), self.numeral(), self.word(), self.minutes())
+        let row = Row::undated(self.word(), self.numeral(), self.word(), self.minutes());
+        self.with_days(row)
     }
 
     /// A row with numeral 1 or more, as `other` must have; in one of three cases a
@@ -121,9 +161,10 @@ impl Random {
         }
     }
 
-    /// A row of any words, numeral 0 among them.
+    /// A row of any words, numeral 0 and first days after the last among them.
     pub fn any_row(&mut self) -> Row {
-        Row::new(self.word(), self.word(), self.word(), self.minutes())
+        let row = Row::undated(self.word(), self.word(), self.word(), self.minutes());
+        self.with_any_days(row)
     }
 
     /// Words to fill a slice with beforehand.

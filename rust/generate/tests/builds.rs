@@ -134,7 +134,7 @@ fn tried_entries(
         let entry = Some(IslandEntry { made, numeral: numeral(rows, taken) });
         // The board with the entry as one row more, whose number stands for it in the lists.
         let mut with_entry = rows.to_vec();
-        with_entry.push(Row::new(0, numeral(rows, taken), 0, 0));
+        with_entry.push(Row::undated(0, numeral(rows, taken), 0, 0));
         let mut ended = Vec::new();
         for list in std::iter::once(&Vec::new()).chain(lists) {
             let path: Vec<usize> = [&[with_entry.len()], &list[..]].concat();

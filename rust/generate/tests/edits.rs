@@ -75,25 +75,34 @@ fn walk(board: Board, machine: &Machine) {
 #[test]
 fn histories() {
     let mut random = Random::announced("histories", 11);
-    let mut seen = [0u32; 18];
+    let mut seen = [0u32; 21];
+    let (mut with_days, mut without) = (0, 0);
     for round in 0..160 {
         let kind = match round % 16 {
             0 => History::Full,
             1 | 6 | 11 => History::Wild,
             2 | 5 | 8 | 13 => History::Runs,
-            3 | 9 => History::Islands,
+            3 => History::Islands,
+            9 => History::Dated,
             _ => random.pick(&[History::Small, History::Deep]),
         };
         let calls = history(&mut random, kind);
         let (board, machine, refusals) = from_empty(&calls);
-        for refusal in refusals {
+        for (call, refusal) in calls.iter().zip(refusals) {
             seen[refusal as usize] += 1;
+            match call {
+                Call::Add(row) if refusal == 0 && Days::of(row) == Days::ALL => without += 1,
+                Call::Add(_) if refusal == 0 => with_days += 1,
+                _ => {}
+            }
         }
         assert!(machine.kept.len() + machine.undone.len() <= 256);
         walk(board, &machine);
     }
-    println!("refusals 0 to 5: {:?}; 17: {}", &seen[..6], seen[17]);
-    assert!([0, 2, 3, 4, 5, 17].iter().all(|refusal| seen[*refusal] > 20), "{seen:?}");
+    println!("refusals 0 to 5: {:?}; 17: {}; 20: {}", &seen[..6], seen[17], seen[20]);
+    println!("rows added with days {with_days}, without {without}");
+    assert!([0, 2, 3, 4, 5, 17, 20].iter().all(|refusal| seen[*refusal] > 20), "{seen:?}");
+    assert!(with_days > 1_000 && without > 1_000);
 }
 
 #[test]

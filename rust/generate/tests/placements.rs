@@ -168,7 +168,7 @@ fn few_rows(random: &mut Random) -> Vec<Row> {
     }
     random.shuffle(&mut edges);
     let row = |(parent, numeral): (u32, u32)| {
-        Row::new(parent, numeral, random.below(2) as u32, random.minutes())
+        Row::undated(parent, numeral, random.below(2) as u32, random.minutes())
     };
     edges.into_iter().map(row).collect()
 }

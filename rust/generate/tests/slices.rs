@@ -139,7 +139,7 @@ fn has_islands(input: &[u8]) -> bool {
         .lines()
         .map(|line| {
             let fields: Vec<i64> = line.split(' ').map(|field| field.parse().unwrap()).collect();
-            Row::new(fields[0] as u32, fields[1] as u32, fields[2] as u32, fields[3] as i32)
+            Row::undated(fields[0] as u32, fields[1] as u32, fields[2] as u32, fields[3] as i32)
         })
         .collect();
     islands::islands(&rows, Start::ParentZero).contains(&true)

@@ -4,11 +4,12 @@
 
 use crate::levelled::LevelledView;
 use crate::tables::{
-    self, cell_name, date_name, dates, id, numeral, t_demo, t_demo_err, t_demo_lvl, unordered,
+    self, cell_name, date, date_name, dates, day, id, numeral, t_demo, t_demo_err, t_demo_lvl,
+    t_demo_time, unordered,
 };
 use crate::view::{code, lines, Pick, View};
 use crate::Engine;
-use reference::{Row, Start};
+use reference::{Asked, Days, Row, Start};
 
 const ANY: (i32, i32) = (i32::MIN, i32::MAX);
 
@@ -368,6 +369,152 @@ pub fn s3_2_well_formed_tree(engine: &dyn Engine) {
         assert_eq!(tree.totals[totals], hierarchy.totals[totals]);
         assert_eq!(tree.left, hierarchy.left);
     }
+}
+
+// 3.3 HIERARCHY_TEMPORAL
+
+/// VALID FROM and UNTIL two dates, both included; orphans are always ignored.
+fn valid(from: &str, until: &str) -> Asked<'static> {
+    let window = Days::new(day(from), day(until));
+    Asked { code: code(0, 0, 0), depth: None, start: Start::ParentZero, window }
+}
+
+/// VALID AT a date: a window of one day.
+fn valid_at(date: &str) -> Asked<'static> {
+    valid(date, date)
+}
+
+/// VALID FROM '2011-04-01' UNTIL '2013-12-31' EXCLUDED, which holds for the source too: all last days
+/// are those before the dates given, and the dates printed are those after the last days.
+///
+/// In rank 4 the guide prints V1, a misprint: the row valid from 2013-01-01 is inserted as V2.
+pub fn s3_3_until_excluded(engine: &dyn Engine) {
+    let mut asked = valid("2011-04-01", "2013-12-31");
+    asked.window.last -= 1;
+    let mut view = View::dated(engine, t_demo_time(true), asked);
+    view.until = |last| date(last + 1);
+    view.check(
+        &view.all(),
+        "RANK TREE_SIZE PARENT_RANK LEVEL PARENT_ID NODE_ID VALID_FROM VALID_UNTIL
+         1 4 0 1 - T1 2011-04-01 2013-12-31
+         2 3 1 2 T1 U1 2011-07-01 2013-12-31
+         3 1 2 3 U1 V1 2011-07-01 2012-12-31
+         4 1 2 3 U1 V2 2013-01-01 2013-12-31",
+    );
+    assert_eq!(view.image.left, 0);
+}
+
+/// VALID FROM '2015-07-01' UNTIL '2019-12-31'.
+///
+/// In rank 3 the guide prints V1, a misprint: V1 is valid until 2012-12-31, and V2 as printed.
+pub fn s3_3_interval(engine: &dyn Engine) {
+    let view = View::dated(engine, t_demo_time(false), valid("2015-07-01", "2019-12-31"));
+    view.check(
+        &view.all(),
+        "RANK TREE_SIZE PARENT_RANK LEVEL PARENT_ID NODE_ID VALID_FROM VALID_UNTIL
+         1 3 0 1 - T1 2015-07-01 2016-12-31
+         2 2 1 2 T1 U1 2015-07-01 2016-12-31
+         3 1 2 3 U1 V2 2015-07-01 2016-12-31",
+    );
+    assert_eq!(view.image.left, 1);
+}
+
+/// VALID AT '2015-07-02' UNTIL EXCLUDED, which holds for the source alone.
+///
+/// In rank 3 the guide prints V1, a misprint as in the example before.
+pub fn s3_3_point_in_time(engine: &dyn Engine) {
+    let view = View::dated(engine, t_demo_time(true), valid_at("2015-07-02"));
+    view.check(
+        &view.all(),
+        "RANK TREE_SIZE PARENT_RANK LEVEL PARENT_ID NODE_ID VALID_FROM VALID_UNTIL
+         1 3 0 1 - T1 2015-07-02 2015-07-02
+         2 2 1 2 T1 U1 2015-07-02 2015-07-02
+         3 1 2 3 U1 V2 2015-07-02 2015-07-02",
+    );
+    assert_eq!(view.image.left, 1);
+}
+
+/// "The interval bounds are closed by default, which means that both boundary values are included":
+/// the nodes on the first and the last days of T_DEMO_TIME and on those beside them, with UNTIL
+/// included and excluded.
+pub fn s3_3_closed_bounds(engine: &dyn Engine) {
+    for (at, included, excluded) in [
+        ("2010-12-31", "", ""),
+        ("2011-01-01", "T1", "T1"),
+        ("2011-06-30", "T1", "T1"),
+        ("2011-07-01", "T1 U1 V1", "T1 U1 V1"),
+        ("2012-12-30", "T1 U1 V1", "T1 U1 V1"),
+        ("2012-12-31", "T1 U1 V1", "T1 U1"),
+        ("2013-01-01", "T1 U1 V2", "T1 U1 V2"),
+        ("2016-12-30", "T1 U1 V2", "T1 U1 V2"),
+        ("2016-12-31", "T1 U1 V2", ""),
+        // U1 is valid, but not T1 above it.
+        ("2017-01-01", "", ""),
+    ] {
+        for (until_excluded, wanted) in [(false, included), (true, excluded)] {
+            let view = View::dated(engine, t_demo_time(until_excluded), valid_at(at));
+            let ids: Vec<String> = view.ranks().into_iter().map(|rank| view.id_of(rank)).collect();
+            assert_eq!(ids.join(" "), wanted, "{at}");
+        }
+    }
+}
+
+/// The elements that HIERARCHY_TEMPORAL has in common with HIERARCHY:
+/// 1. START WHERE node_id = 'U1': its days don't depend on those of T1.
+/// 2. "Start nodes and roots have a depth of 0. If the depth is set to less than 0, then the query
+///    returns an empty result set."
+/// 3. "Orphans are always ignored": no other choice is taken.
+pub fn s3_3_start_and_depth(engine: &dyn Engine) {
+    let asked = valid("2015-07-01", "2019-12-31");
+    let u1 = [numeral("U1")];
+    let from_u1 = Asked { start: Start::Numerals(&u1), ..asked };
+    let view = View::dated(engine, t_demo_time(false), from_u1);
+    view.check(
+        &view.all(),
+        "RANK TREE_SIZE PARENT_RANK LEVEL PARENT_ID NODE_ID VALID_FROM VALID_UNTIL
+         1 2 0 1 T1 U1 2015-07-01 2018-12-31
+         2 1 1 2 U1 V2 2015-07-01 2016-12-31",
+    );
+    for (depth, nodes) in [(-1, 0), (0, 1), (1, 2), (2, 3), (3, 3)] {
+        let view = View::dated(engine, t_demo_time(false), Asked { depth: Some(depth), ..asked });
+        assert_eq!(view.image.nodes(), nodes, "depth {depth}");
+    }
+    for orphan in 1..=3 {
+        let refused =
+            engine.build_dated(&t_demo_time(false), Asked { code: code(orphan, 0, 0), ..asked });
+        assert_eq!(refused.err(), Some(7), "orphan {orphan}");
+    }
+}
+
+/// MULTIPARENT ERROR: "If the hierarchy function result set contains non-distinct NODE_ID values, an
+/// error is raised"; CYCLE ERROR: "If the source data traversal passes a cycle [...], an error is
+/// raised." A row below V2 that leads back to U1 for the year 2014 does both, for queries of that year.
+pub fn s3_3_multiparent_and_cycle(engine: &dyn Engine) {
+    let mut rows = t_demo_time(false);
+    let back = Row::undated(numeral("V2"), numeral("U1"), 9, 0);
+    rows.push(back.on(day("2014-01-01"), day("2014-12-31")));
+    let refusal =
+        |asked: Asked, code: u32| engine.build_dated(&rows, Asked { code, ..asked }).err();
+    for (asked, in_2014) in [
+        (valid_at("2013-12-31"), false),
+        (valid("2014-12-31", "2018-12-31"), true),
+        (valid("2015-01-01", "2018-12-31"), false),
+        (valid("2011-01-01", "2018-12-31"), true),
+    ] {
+        assert_eq!(refusal(asked, code(0, 0, 0)), None);
+        assert_eq!(refusal(asked, code(0, 2, 0)), in_2014.then_some(11));
+        assert_eq!(refusal(asked, code(0, 0, 1)), in_2014.then_some(10));
+    }
+    // "Depth-first source traversal does not continue after cycle closure."
+    let view = View::dated(engine, rows.clone(), valid("2014-07-01", "2015-12-31"));
+    view.check(
+        &view.all(),
+        "RANK TREE_SIZE LEVEL IS_CYCLE PARENT_ID NODE_ID VALID_FROM VALID_UNTIL
+         1 4 1 0 - T1 2014-07-01 2015-12-31
+         2 3 2 0 T1 U1 2014-07-01 2015-12-31
+         3 2 3 0 U1 V2 2014-07-01 2015-12-31
+         4 1 4 1 V2 U1 2014-07-01 2014-12-31",
+    );
 }
 
 // 3.4 HIERARCHY_LEVELLED
@@ -1032,7 +1179,7 @@ pub fn s8_1_path_by_two_hierarchies(engine: &dyn Engine) {
     let rows: Vec<Row> = view
         .ranks()
         .into_iter()
-        .map(|rank| Row::new(view.image.body(rank).parent, rank, 0, 0))
+        .map(|rank| Row::undated(view.image.body(rank).parent, rank, 0, 0))
         .collect();
     let second = View::by_code(engine, unordered(rows), code(0, 0, 0));
     let mut found: Vec<String> = second
@@ -1134,7 +1281,7 @@ pub fn s8_3_orphan_collector(engine: &dyn Engine) {
     // Ordered by source (1, then 2), then by ord.
     let mut rows: Vec<Row> =
         t_demo().iter().map(|row| Row { order: 1_000 + row.order, ..*row }).collect();
-    rows.push(Row::new(0, numeral("SP"), 2_001, 0));
+    rows.push(Row::undated(0, numeral("SP"), 2_001, 0));
     let start = [numeral("B2"), numeral("SP")];
     let view = View::new(engine, rows, code(2, 0, 0), None, Start::Numerals(&start));
     view.check(
@@ -1430,7 +1577,7 @@ pub fn deviation_ties(engine: &dyn Engine) {
     );
 
     // B1 below A1 twice: amount 5 was entered before amount 2, and B2 before both.
-    let row = |parent, node, amount| Row::new(numeral(parent), numeral(node), 7, amount);
+    let row = |parent, node, amount| Row::undated(numeral(parent), numeral(node), 7, amount);
     let rows = vec![row("A1", "B2", 4), row("A1", "B1", 5), row("A1", "B1", 2), row("-", "A1", 1)];
     let view = View::by_code(engine, rows, code(0, 0, 0));
     view.check(

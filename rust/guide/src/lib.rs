@@ -18,6 +18,9 @@
 //! * Start conditions: the guide takes any SQL condition; the paper takes parent
 //!   0 or a list of numerals. A condition on another column is expressed by
 //!   giving the rows that meet it parent 0.
+//! * Validity: the guide takes columns of many types, and bounds that may be excluded; the papers
+//!   take days, both included. An excluded upper bound is the day before it, and a point in
+//!   time is a window of one day (`s3_3_until_excluded`, `s3_3_point_in_time`).
 //! * Levelled sources: the guide takes columns of many types, any number of them, and a
 //!   sibling order; the papers take numbers, 0 for NULL, at most 8 columns and 512 lines,
 //!   in one order (`s3_4_all_columns`, `s8_10_dates`). Lines that are equal or wholly NULL
@@ -32,7 +35,7 @@ pub mod levelled;
 pub mod tables;
 mod view;
 
-use reference::{Body, Row, Start};
+use reference::{Asked, Body, Row, Start};
 
 /// An implementation under test. A refusal is the scope paper's number.
 pub trait Engine {
@@ -57,6 +60,10 @@ pub trait Engine {
     /// Builds shortest placement over `rows` into slices of the engine's choice, which hold
     /// at least 1,000 nodes.
     fn build_shortest(&self, rows: &[Row], start: Start) -> Result<Image, u32>;
+
+    /// Builds over `rows` with a window into slices of the engine's choice, which hold at least
+    /// 1,000 nodes.
+    fn build_dated(&self, rows: &[Row], asked: Asked) -> Result<DatedImage, u32>;
 
     /// Ranks of the node's span within the limits.
     fn descendants(
@@ -99,6 +106,13 @@ pub struct Image {
     pub index: Vec<u32>,
     pub totals: Vec<i64>,
     pub left: u32,
+}
+
+/// What a dated build left: the first and the last day of each node, too.
+#[derive(Clone, Debug, PartialEq, Eq)]
+pub struct DatedImage {
+    pub image: Image,
+    pub days: Vec<u32>,
 }
 
 impl Image {
@@ -156,6 +170,12 @@ list_examples! {
     s3_1_cycle_breakup
     s3_2_spanning_tree
     s3_2_well_formed_tree
+    s3_3_until_excluded
+    s3_3_interval
+    s3_3_point_in_time
+    s3_3_closed_bounds
+    s3_3_start_and_depth
+    s3_3_multiparent_and_cycle
     s3_4_all_columns
     s3_4_level_columns
     s4_1_levels_of_columns

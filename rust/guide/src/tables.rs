@@ -6,6 +6,8 @@
 //! `SIBLING ORDER BY ord` puts ord in the order. By `SIBLING ORDER BY node_id`, and
 //! without such a clause, all rows have the same order and the numeral decides.
 //!
+//! A date is the number of days from 2000-01-01 to it, so that days sort as the dates do.
+//!
 //! In a levelled source a number stays as it is, and NULL is 0.
 
 use crate::levelled::Source;
@@ -72,6 +74,14 @@ pub const T_DEMO_LVL: [[&str; 6]; 4] = [
     ["L1", "-", "-", "N2", "O3", "30"],
 ];
 
+/// T_DEMO_TIME: parent_id, node_id, valid_from, valid_until.
+pub const T_DEMO_TIME: [(&str, &str, &str, &str); 4] = [
+    ("-", "T1", "2011-01-01", "2016-12-31"),
+    ("T1", "U1", "2011-07-01", "2018-12-31"),
+    ("U1", "V1", "2011-07-01", "2012-12-31"),
+    ("U1", "V2", "2013-01-01", "2016-12-31"),
+];
+
 /// H_DEMO_FACTS: node, amount_dec_fact in hundredths.
 pub const H_DEMO_FACTS: [(&str, i32); 13] = [
     ("A1", 530),
@@ -97,7 +107,9 @@ pub const T_DEMO_COMPOSITE: [(&str, &str, u32); 3] =
 pub fn t_demo() -> Vec<Row> {
     T_DEMO
         .iter()
-        .map(|&(parent, node, ord, amount)| Row::new(numeral(parent), numeral(node), ord, amount))
+        .map(|&(parent, node, ord, amount)| {
+            Row::undated(numeral(parent), numeral(node), ord, amount)
+        })
         .collect()
 }
 
@@ -112,7 +124,7 @@ pub fn t_demo_err(trees: &[u32]) -> Vec<Row> {
     let rows = T_DEMO_ERR
         .iter()
         .filter(|(_, _, tree)| trees.contains(tree))
-        .map(|&(parent, node, _)| Row::new(numeral(parent), numeral(node), 0, 0));
+        .map(|&(parent, node, _)| Row::undated(numeral(parent), numeral(node), 0, 0));
     unordered(rows.collect())
 }
 
@@ -142,7 +154,7 @@ pub fn t_demo_facts(measure: fn(&[i32]) -> i32) -> Vec<Row> {
 pub fn t_demo_composite() -> Vec<Row> {
     T_DEMO_COMPOSITE
         .iter()
-        .map(|&(parent, node, ord)| Row::new(numeral(parent), numeral(node), ord, 0))
+        .map(|&(parent, node, ord)| Row::undated(numeral(parent), numeral(node), ord, 0))
         .collect()
 }
 
@@ -150,8 +162,47 @@ pub fn t_demo_composite() -> Vec<Row> {
 /// ordered by node id.
 pub fn synthetic() -> Vec<Row> {
     let rows =
-        (1..=100).map(|node| Row::new(if node <= 4 { 0 } else { (node - 1) / 4 }, node, 0, 0));
+        (1..=100).map(|node| Row::undated(if node <= 4 { 0 } else { (node - 1) / 4 }, node, 0, 0));
     unordered(rows.collect())
+}
+
+/// The days of a month, counted from 0, in a year from 2000 to 2099.
+fn days_of_month(year: u32, month: usize) -> u32 {
+    CALENDAR[month].1 + (year.is_multiple_of(4) && month == 1) as u32
+}
+
+/// The dates from 2000-01-01 to 2099-12-31 in order.
+fn calendar() -> impl Iterator<Item = String> {
+    (2_000..2_100).flat_map(|year| {
+        (0..12).flat_map(move |month| {
+            (1..=days_of_month(year, month))
+                .map(move |day| format!("{year}-{:02}-{day:02}", month + 1))
+        })
+    })
+}
+
+/// The day of a date: how many days it is after 2000-01-01.
+pub fn day(date: &str) -> u32 {
+    calendar().position(|other| other == date).expect("a date from 2000 to 2099") as u32
+}
+
+/// The date of a day.
+pub fn date(day: u32) -> String {
+    calendar().nth(day as usize).expect("a day from 2000 to 2099")
+}
+
+/// T_DEMO_TIME, last row first; with `UNTIL EXCLUDED` the last day is the one before valid_until.
+///
+/// `SIBLING ORDER BY node_id, valid_from` has two columns, and the paper's order comes before the
+/// numeral: so the order is the row's place by both.
+pub fn t_demo_time(until_excluded: bool) -> Vec<Row> {
+    let mut sorted = T_DEMO_TIME;
+    sorted.sort_by_key(|&(_, node, from, _)| (node, from));
+    let rows = sorted.iter().enumerate().map(|(place, &(parent, node, from, until))| {
+        let last = day(until) - until_excluded as u32;
+        Row::undated(numeral(parent), numeral(node), place as u32, 0).on(day(from), last)
+    });
+    rows.rev().collect()
 }
 
 /// The cell of a number or an id; of "-" 0.
@@ -216,11 +267,10 @@ const CALENDAR: [(&str, u32); 12] = [
 pub fn dates(years: &[u32]) -> Source {
     let mut lines = Vec::new();
     for &year in years {
-        for (place, (month, days)) in CALENDAR.into_iter().enumerate() {
+        for (place, (month, _)) in CALENDAR.into_iter().enumerate() {
             let quarter = numeral(&format!("Q{}", 1 + place / 3));
             let name = MONTHS.iter().position(|name| *name == month).expect("a month");
-            let leap = (year == 2016 && month == "FEBRUARY") as u32;
-            for day in 1..=days + leap {
+            for day in 1..=days_of_month(year, place) {
                 lines.push(vec![year, quarter, FIRST_MONTH + name as u32, day]);
             }
         }

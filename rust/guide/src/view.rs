@@ -1,16 +1,20 @@
 //! A built hierarchy, and the comparison with a printed table.
 
-use crate::tables::{id, numeral, tree};
+use crate::tables::{date, id, numeral, tree};
 use crate::{Engine, Image};
-use reference::{Row, Start};
+use reference::{Asked, Row, Start};
 
 /// A hierarchy over some rows.
 pub struct View<'a> {
     pub engine: &'a dyn Engine,
     pub rows: Vec<Row>,
     pub image: Image,
+    /// The first and the last day of each node, of a dated build alone.
+    pub days: Vec<u32>,
     /// Names a numeral.
     pub name: fn(u32) -> String,
+    /// Names the upper bound of a last day: its date, or the next where the bound is excluded.
+    pub until: fn(u32) -> String,
 }
 
 /// A result row: a node, and the start node it was found from.
@@ -61,10 +65,17 @@ impl<'a> View<'a> {
         View::of(engine, rows, image)
     }
 
+    /// Builds for a window.
+    pub fn dated(engine: &'a dyn Engine, rows: Vec<Row>, asked: Asked) -> View<'a> {
+        let built = engine.build_dated(&rows, asked).expect("build accepted");
+        let view = View::of(engine, rows, Ok(built.image));
+        View { days: built.days, ..view }
+    }
+
     fn of(engine: &'a dyn Engine, rows: Vec<Row>, built: Result<Image, u32>) -> View<'a> {
         let image = built.expect("build accepted");
         assert!(engine.index_check(&image.index), "index check");
-        View { engine, rows, image, name: id }
+        View { engine, rows, image, days: Vec::new(), name: id, until: date }
     }
 
     /// All ranks.
@@ -178,6 +189,8 @@ impl<'a> View<'a> {
             "START_RANK" => pick.start.to_string(),
             "START_ID" => self.id_of(pick.start),
             "TREE" => tree(self.source(pick.rank).expect("a source row")).to_string(),
+            "VALID_FROM" => date(self.days[2 * pick.rank as usize - 2]),
+            "VALID_UNTIL" => (self.until)(self.days[2 * pick.rank as usize - 1]),
             "AMOUNT" => self.amount(pick.rank).to_string(),
             _ => panic!("column {column}"),
         }

@@ -1,7 +1,7 @@
 //! The guide's examples through the reference.
 
 use generate::ties::{ties, Tie};
-use guide::{Engine, Image, EXAMPLES};
+use guide::{DatedImage, Engine, Image, EXAMPLES};
 use reference::*;
 use std::cell::RefCell;
 
@@ -65,6 +65,17 @@ impl Engine for Reference {
         assert_eq!(built.nodes, index[0]);
         self.ties.borrow_mut().extend(ties(rows, &index));
         Ok(Image { index, totals, left: built.left })
+    }
+
+    fn build_dated(&self, rows: &[Row], asked: Asked) -> Result<DatedImage, u32> {
+        let mut index = vec![0; 8 + 6 * NODES];
+        let mut totals = vec![0; NODES + 1];
+        let mut days = vec![0; 2 * NODES];
+        let built = build_dated(rows, asked, &mut index, &mut totals, &mut days);
+        of(built.refusal)?;
+        assert_eq!(built.nodes, index[0]);
+        self.ties.borrow_mut().extend(ties(rows, &index));
+        Ok(DatedImage { image: Image { index, totals, left: built.left }, days })
     }
 
     fn descendants(
@@ -137,7 +148,7 @@ fn every_example_is_run() {
         assert!(list.lines().any(|line| line.trim() == name), "{name} is not run");
         count += 1;
     }
-    assert_eq!(count, 68);
+    assert_eq!(count, 74);
 }
 
 /// What the page's table of ties says of an example, the first two columns: how many neighbouring

@@ -1,7 +1,8 @@
 //! Section 8.5 asks some questions of the source table alone, by plain SQL. No
-//! engine takes part: its printed figures check the copy of T_DEMO_ERR.
+//! engine takes part: its printed figures check the copy of T_DEMO_ERR. Nor does one
+//! where the days of dates are checked.
 
-use guide::tables::{id, t_demo_err, H_DEMO_FACTS, T_DEMO_ERR};
+use guide::tables::{date, day, id, t_demo_err, H_DEMO_FACTS, T_DEMO_ERR, T_DEMO_TIME};
 use reference::Row;
 
 fn rows() -> Vec<Row> {
@@ -72,4 +73,24 @@ fn s5_5_facts() {
     };
     assert_eq!(sum(true), (4_010, 10));
     assert_eq!(sum(false), (2_550, 3));
+}
+
+/// Section 2.3: days are counted from 2000-01-01, and every fourth year has one more.
+#[test]
+fn s2_3_days() {
+    for (text, number) in [
+        ("2000-01-01", 0),
+        ("2000-02-29", 59),
+        ("2000-12-31", 365),
+        ("2001-01-01", 366),
+        ("2001-03-01", 366 + 59),
+        ("2011-01-01", 11 * 365 + 3),
+        ("2099-12-31", 100 * 365 + 24),
+    ] {
+        assert_eq!((day(text), date(number).as_str()), (number, text));
+    }
+    for (_, _, from, until) in T_DEMO_TIME {
+        assert!(day(from) < day(until) && from < until);
+        assert_eq!((date(day(from)), date(day(until))), (from.to_string(), until.to_string()));
+    }
 }

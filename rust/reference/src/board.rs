@@ -3,7 +3,8 @@
 use crate::machine::{Call, Machine};
 use crate::{JOURNAL_PLACES, MAX_KEPT, MAX_ROWS, MAX_UNDONE};
 
-/// A row of a board. Parent 0 is none; minutes are negative for a deduction.
+/// A row of a board. Parent 0 is none; minutes are negative for a deduction. Both days are included;
+/// on a board made by hand the first may be after the last.
 #[repr(C)]
 #[derive(Clone, Copy, Debug, PartialEq, Eq, Default)]
 pub struct Row {
@@ -11,11 +12,23 @@ pub struct Row {
     pub numeral: u32,
     pub order: u32,
     pub minutes: i32,
+    pub first_day: u32,
+    pub last_day: u32,
 }
 
 impl Row {
-    pub const fn new(parent: u32, numeral: u32, order: u32, minutes: i32) -> Row {
-        Row { parent, numeral, order, minutes }
+    /// What a place holds before a row is put there: all words 0, the days too.
+    pub const BLANK: Row =
+        Row { parent: 0, numeral: 0, order: 0, minutes: 0, first_day: 0, last_day: 0 };
+
+    /// A row entered without days, which gets all there are.
+    pub const fn undated(parent: u32, numeral: u32, order: u32, minutes: i32) -> Row {
+        Row { parent, numeral, order, minutes, first_day: 0, last_day: u32::MAX }
+    }
+
+    /// The same row with these days.
+    pub const fn on(self, first_day: u32, last_day: u32) -> Row {
+        Row { first_day, last_day, ..self }
     }
 }
 
@@ -105,10 +118,10 @@ impl Board {
     /// No rows, no kept and no undone steps.
     pub const EMPTY: Board = Board {
         count: 0,
-        rows: [Row::new(0, 0, 0, 0); MAX_ROWS],
+        rows: [Row::BLANK; MAX_ROWS],
         kept: 0,
         undone: 0,
-        journal: [Entry { kind: 0, at: 0, row: Row::new(0, 0, 0, 0) }; JOURNAL_PLACES],
+        journal: [Entry { kind: 0, at: 0, row: Row::BLANK }; JOURNAL_PLACES],
     };
 
     /// The rows held; of a count above 1,024 all places.
@@ -190,6 +203,9 @@ impl Board {
         }
         if row.numeral == 0 {
             return self.refused(2);
+        }
+        if row.first_day > row.last_day {
+            return self.refused(20);
         }
         if self.count == MAX_ROWS {
             return self.refused(3);

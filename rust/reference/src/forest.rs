@@ -178,7 +178,7 @@ fn numeral_at(rows: &[Row], entry: Option<IslandEntry>, k: usize) -> u32 {
 }
 
 /// Whether a path of `length` rows is allowed by the depth.
-fn within_depth(length: usize, depth: Option<i32>) -> bool {
+pub(crate) fn within_depth(length: usize, depth: Option<i32>) -> bool {
     match depth {
         None => true,
         Some(d) => d >= 0 && length as i64 <= d as i64 + 1,
@@ -482,16 +482,28 @@ fn attempt(
     let fits = |n: usize| image_fits(n, index_words, total_words);
     let forest = forest(rows, options.orphan, depth, start, &fits)?;
 
-    if options.cycle == 1 && forest.nodes.iter().any(|node| node.closing) {
+    let bodies = bodies(rows, &forest.nodes);
+    refused_by_choice(options, &bodies)?;
+
+    if options.orphan == ERROR && !forest.unreached.is_empty() {
+        return Err(12);
+    }
+
+    let left = left_over(rows, &bodies);
+    Ok((bodies, left))
+}
+
+/// Refusals 10 and 11 in order, by the choices of cycle and multi over the nodes.
+pub(crate) fn refused_by_choice(options: Options, bodies: &[Body]) -> Result<(), u32> {
+    if options.cycle == 1 && bodies.iter().any(|body| body.closing) {
         return Err(10);
     }
 
-    let bodies = bodies(rows, &forest.nodes);
     let mut bearers: HashMap<u32, u32> = HashMap::new();
-    for body in &bodies {
+    for body in bodies {
         *bearers.entry(body.numeral).or_insert(0) += 1;
     }
-    for body in &bodies {
+    for body in bodies {
         let shared = bearers[&body.numeral] > 1;
         if options.multi == 2 && shared {
             return Err(11);
@@ -500,13 +512,7 @@ fn attempt(
             return Err(11);
         }
     }
-
-    if options.orphan == ERROR && !forest.unreached.is_empty() {
-        return Err(12);
-    }
-
-    let left = left_over(rows, &bodies);
-    Ok((bodies, left))
+    Ok(())
 }
 
 /// The number of rows that end no node.

@@ -6,6 +6,7 @@
 //! * [`forest`]: paths, nodes, their order and the build of the index image, with any options or by
 //!   default.
 //! * [`shortest`]: the paths that shortest placement keeps, and the build from them.
+//! * [`dated`]: the regular paths with days left in a window, and the build from them.
 //! * [`levelled`]: beginnings of the lines of a levelled list, and the build from them.
 //! * [`navigation`]: span, descendants, ancestors, siblings and sums on any slices.
 //! * [`check`]: the index check.
@@ -18,6 +19,7 @@
 
 pub mod board;
 pub mod check;
+pub mod dated;
 pub mod forest;
 pub mod levelled;
 pub mod listing;
@@ -27,6 +29,7 @@ pub mod shortest;
 
 pub use board::{Board, Edited, Entry, Row};
 pub use check::index_check;
+pub use dated::{build_dated, build_dated_board, Asked, Days};
 pub use forest::{
     build, build_board, build_default, build_default_board, Body, Built, Forest, IslandEntry, Node,
     Options, Start,

@@ -65,7 +65,7 @@ fn lines(input: &[u8]) -> Vec<&[u8]> {
     list
 }
 
-/// A line `parent numeral order minutes`, one space between.
+/// A line `parent numeral order minutes`, one space between. Its row is entered without days.
 fn read_line(line: &[u8]) -> Option<Row> {
     let fields: Vec<&[u8]> = line.split(|byte| *byte == b' ').collect();
     if fields.len() != 4 {
@@ -77,12 +77,12 @@ fn read_line(line: &[u8]) -> Option<Row> {
     };
     let magnitude = digits(minutes)?;
     let minutes = if negative { -magnitude } else { magnitude };
-    Some(Row {
-        parent: u32::try_from(digits(fields[0])?).ok()?,
-        numeral: u32::try_from(digits(fields[1])?).ok()?,
-        order: u32::try_from(digits(fields[2])?).ok()?,
-        minutes: i32::try_from(minutes).ok()?,
-    })
+    Some(Row::undated(
+        u32::try_from(digits(fields[0])?).ok()?,
+        u32::try_from(digits(fields[1])?).ok()?,
+        u32::try_from(digits(fields[2])?).ok()?,
+        i32::try_from(minutes).ok()?,
+    ))
 }
 
 /// The value of one or more digits; a value too large for any field is held at 2^40.

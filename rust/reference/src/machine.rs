@@ -47,6 +47,9 @@ impl Machine {
         if row.numeral == 0 {
             return 2;
         }
+        if row.first_day > row.last_day {
+            return 20;
+        }
         if self.rows.len() == MAX_ROWS {
             return 3;
         }

@@ -19,7 +19,7 @@ const ON: Start = Start::ParentZero;
 
 /// A row whose minutes are 1.
 fn row(parent: u32, numeral: u32, order: u32) -> Row {
-    Row::new(parent, numeral, order, 1)
+    Row::undated(parent, numeral, order, 1)
 }
 
 /// A build by default with room enough, which leaves no row without a node.
@@ -100,12 +100,12 @@ fn a_part_whose_parent_is_not_drawn_yet() {
     // 8 has the smallest order and row number of all, but is an orphan: it stands behind the regular
     // nodes, with 6 and 7 below it.
     let rows = [
-        Row::new(9, 8, 0, 10),
-        Row::new(8, 7, 2, 20),
-        Row::new(0, 1, 5, 30),
-        Row::new(1, 2, 5, 40),
-        Row::new(8, 6, 1, 50),
-        Row::new(0, 3, 6, 60),
+        Row::undated(9, 8, 0, 10),
+        Row::undated(8, 7, 2, 20),
+        Row::undated(0, 1, 5, 30),
+        Row::undated(1, 2, 5, 40),
+        Row::undated(8, 6, 1, 50),
+        Row::undated(0, 3, 6, 60),
     ];
     let image = by_default(&rows);
     assert_eq!(
@@ -163,7 +163,7 @@ fn several_such_parts_in_sibling_order() {
 fn a_part_joins_the_tree_when_its_parent_is_drawn() {
     let mut board = Board::EMPTY;
     let mut seen = Vec::new();
-    let (part, parent) = (Row::new(10, 20, 1, 3), Row::new(0, 10, 1, 5));
+    let (part, parent) = (Row::undated(10, 20, 1, 3), Row::undated(0, 10, 1, 5));
     for call in [Call::Add(part), Call::Add(parent), Call::Withdraw(2), Call::Undo, Call::Undo] {
         let edited = board.call(call);
         assert_eq!(edited.refusal, 0);
@@ -207,11 +207,11 @@ fn a_ring_with_no_way_in() {
     // 2 over 3 over 2, and 4 below 3. Row 1 is the lowest whose numeral is on the ring. The entry 2
     // comes after the other orphan, although all rows of the island have smaller orders.
     let rows = [
-        Row::new(3, 2, 0, 10),
-        Row::new(2, 3, 0, 20),
-        Row::new(0, 1, 9, 1),
-        Row::new(9, 8, 7, 5),
-        Row::new(3, 4, 0, 40),
+        Row::undated(3, 2, 0, 10),
+        Row::undated(2, 3, 0, 20),
+        Row::undated(0, 1, 9, 1),
+        Row::undated(9, 8, 7, 5),
+        Row::undated(3, 4, 0, 40),
     ];
     let image = by_default(&rows);
     assert_eq!(
@@ -304,7 +304,7 @@ fn no_depth() {
 #[test]
 fn a_full_board_of_orphans() {
     // Entered last to first in sibling order.
-    let rows: Vec<Row> = (1..=1_024).map(|k| Row::new(u32::MAX, k, 1_024 - k, -1)).collect();
+    let rows: Vec<Row> = (1..=1_024).map(|k| Row::undated(u32::MAX, k, 1_024 - k, -1)).collect();
     let board = board_of(&rows);
     let image = image_in(1_024, |index, totals| build_default_board(&board, index, totals));
     assert_eq!(image.built, accepted(1_024, 0));

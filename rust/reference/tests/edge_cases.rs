@@ -7,7 +7,7 @@ use reference::board::{carried_out, inverse, PUT_IN, SET, TAKE_OUT};
 use reference::*;
 
 fn row(parent: u32, numeral: u32, order: u32) -> Row {
-    Row::new(parent, numeral, order, 1)
+    Row::undated(parent, numeral, order, 1)
 }
 
 fn build_all(rows: &[Row], code: u32, depth: Option<i32>, start: Start) -> Image {
@@ -259,8 +259,8 @@ fn no_node_needs_eight_words_and_one_total() {
 
 /// 255 start rows of numeral 1 and 256 rows below it: 255 × 257 = 65,535 nodes.
 fn widest() -> Vec<Row> {
-    let mut rows = vec![Row::new(0, 1, 1, i32::MIN); 255];
-    rows.extend(vec![Row::new(1, 2, 1, i32::MIN); 256]);
+    let mut rows = vec![Row::undated(0, 1, 1, i32::MIN); 255];
+    rows.extend(vec![Row::undated(1, 2, 1, i32::MIN); 256]);
     rows
 }
 
@@ -367,7 +367,7 @@ fn siblings_of_equal_order_and_numeral_by_row_number() {
     let image = build_all(&rows, 0, None, Start::ParentZero);
     assert_eq!(paths(&image), [&[1][..], &[1, 2], &[1, 3], &[1, 4]]);
     // Neither the parent nor the minutes decide; the totals tell the rows apart.
-    let rows = [Row::new(9, 7, 3, 8), Row::new(0, 7, 3, -5), Row::new(8, 7, 3, 1)];
+    let rows = [Row::undated(9, 7, 3, 8), Row::undated(0, 7, 3, -5), Row::undated(8, 7, 3, 1)];
     let image = build_all(&rows, 0, None, Start::Numerals(&[7]));
     assert_eq!(paths(&image), [[1], [2], [3]]);
     assert_eq!(image.totals(), [0, 8, 3, 4]);
@@ -543,10 +543,10 @@ fn several_rows_of_one_numeral() {
     // Rows 1 and 2 differ by row number alone, so all paths over row 1 come before those over row 2,
     // whatever the rows that follow.
     let rows = [
-        Row::new(0, 10, 1, 1),
-        Row::new(0, 10, 1, 10),
-        Row::new(10, 20, 5, 100),
-        Row::new(10, 15, 5, 1_000),
+        Row::undated(0, 10, 1, 1),
+        Row::undated(0, 10, 1, 10),
+        Row::undated(10, 20, 5, 100),
+        Row::undated(10, 15, 5, 1_000),
     ];
     let image = build_all(&rows, 0, None, Start::ParentZero);
     assert_eq!(paths(&image), [&[1][..], &[1, 4], &[1, 3], &[2], &[2, 4], &[2, 3]]);
@@ -692,11 +692,11 @@ fn orders_and_numerals_at_their_ends() {
 fn sums_and_lists_with_an_adopting_row_of_equal_order() {
     // Rank 1 is row 2 (numeral 20). Rank 2 is row 1 (30), then 5 and 6 below it, then the orphan.
     let rows = [
-        Row::new(0, 30, 9, 1),
-        Row::new(0, 20, 9, 10),
-        Row::new(50, 4, 0, 100),
-        Row::new(30, 6, 2, 1_000),
-        Row::new(30, 5, 2, 10_000),
+        Row::undated(0, 30, 9, 1),
+        Row::undated(0, 20, 9, 10),
+        Row::undated(50, 4, 0, 100),
+        Row::undated(30, 6, 2, 1_000),
+        Row::undated(30, 5, 2, 10_000),
     ];
     let image = build_all(&rows, 2, None, Start::ParentZero);
     assert_eq!(paths(&image), [&[2][..], &[1], &[1, 5], &[1, 4], &[1, 3]]);
@@ -754,9 +754,9 @@ fn done(board: Board, call: Call) -> Board {
 
 #[test]
 fn words_of_the_record() {
-    assert_eq!(std::mem::size_of::<Row>(), 16);
-    assert_eq!(std::mem::size_of::<Entry>(), 24);
-    assert_eq!(std::mem::size_of::<Board>(), 28_696);
+    assert_eq!(std::mem::size_of::<Row>(), 24);
+    assert_eq!(std::mem::size_of::<Entry>(), 32);
+    assert_eq!(std::mem::size_of::<Board>(), 40_984);
     assert_eq!((TAKE_OUT, PUT_IN, SET), (0, 1, 2));
     assert_eq!((MAX_KEPT, MAX_UNDONE, JOURNAL_PLACES), (256, 256, 512));
 }
@@ -1119,7 +1119,7 @@ fn a_withdrawal_redone_in_the_middle() {
 
 /// A row of the given minutes; the steps below set one such row after the other.
 fn timed(minutes: i32) -> Row {
-    Row::new(0, 1, 1, minutes)
+    Row::undated(0, 1, 1, minutes)
 }
 
 fn set(minutes: i32) -> Entry {
@@ -1277,7 +1277,7 @@ fn steps_just_below_the_limits() {
 #[test]
 fn edits_with_256_kept_and_256_undone() {
     let board = stretched(256, 256);
-    let added = Row::new(0, 2, 1, 5);
+    let added = Row::undated(0, 2, 1, 5);
     for (call, noted) in [
         (Call::Add(added), Entry { kind: TAKE_OUT, at: 1, row: added }),
         (Call::Withdraw(1), Entry { kind: PUT_IN, at: 0, row: timed(0) }),

@@ -158,7 +158,7 @@ fn m8_withdraw_and_undo() {
     let mut machine = marked_machine();
     assert_eq!(machine.withdraw(2), 0);
     assert_eq!(machine.rows.len(), 6);
-    assert_eq!(machine.rows[1], Row::new(10, 30, 1, 4));
+    assert_eq!(machine.rows[1], Row::undated(10, 30, 1, 4));
     let withdrawn = machine.rows.clone();
     assert_eq!(machine.undo(), 0);
     assert_eq!(machine.rows, MARKED);
@@ -228,7 +228,7 @@ fn limit_of_rows() {
     let mut board = Board::EMPTY;
     for k in 1..=1_025 {
         let expected = if k <= 1_024 { 0 } else { 3 };
-        let row = Row::new(0, k, k, 0);
+        let row = Row::undated(0, k, k, 0);
         assert_eq!(machine.add(row), expected);
         let edited = board.add(row);
         assert_eq!(edited.refusal, expected);
@@ -243,7 +243,7 @@ fn limit_of_rows() {
 fn limit_of_kept_steps() {
     let mut machine = Machine::new();
     let mut board = Board::EMPTY;
-    let mut calls = vec![Call::Add(Row::new(0, 1, 1, 0))];
+    let mut calls = vec![Call::Add(Row::undated(0, 1, 1, 0))];
     calls.extend((1..257).map(|minutes| Call::Remark(1, minutes)));
     assert_eq!(calls.len(), 257);
     calls.extend([Call::Undo; 257]);
@@ -256,7 +256,7 @@ fn limit_of_kept_steps() {
         assert_eq!(board.held(), machine.rows);
         assert_eq!(board.kept, machine.kept.len());
     }
-    assert_eq!(machine.rows, [Row::new(0, 1, 1, 0)]);
+    assert_eq!(machine.rows, [Row::undated(0, 1, 1, 0)]);
 }
 
 /// 257 adds, then 256 undos and a refused one, then 256 redos and a refused one; then one step at
@@ -265,7 +265,7 @@ fn limit_of_kept_steps() {
 fn limit_of_undone_steps() {
     let mut machine = Machine::new();
     let mut board = Board::EMPTY;
-    let rows: Vec<Row> = (1..=257).map(|k| Row::new(0, k, k, 0)).collect();
+    let rows: Vec<Row> = (1..=257).map(|k| Row::undated(0, k, k, 0)).collect();
     let mut steps: Vec<(Call, u32, usize, usize)> = Vec::new();
     for (place, row) in rows.iter().enumerate() {
         steps.push((Call::Add(*row), 0, (place + 1).min(256), 0));
@@ -292,7 +292,7 @@ fn limit_of_undone_steps() {
 /// The plain machine with 256 lists in K and in F: one more drops the last.
 #[test]
 fn limits_of_the_machine() {
-    let list = |k: i32| vec![Row::new(0, 1, 1, k)];
+    let list = |k: i32| vec![Row::undated(0, 1, 1, k)];
     let machine = Machine {
         rows: list(0),
         kept: (1..=256).map(|k| list(-k)).collect(),

@@ -14,7 +14,7 @@ const ROOT: u32 = 3;
 
 /// A row whose minutes are 1.
 fn row(parent: u32, numeral: u32, order: u32) -> Row {
-    Row::new(parent, numeral, order, 1)
+    Row::undated(parent, numeral, order, 1)
 }
 
 fn build_all(rows: &[Row], code: u32, start: Start) -> Image {
@@ -39,7 +39,7 @@ fn entries(image: &Image) -> Vec<u32> {
 
 /// 10 over 20 over 30 over 10, entered as a ring with no way in.
 const GEAR_TRAIN: [Row; 3] =
-    [Row::new(30, 10, 1, 5), Row::new(10, 20, 1, 7), Row::new(20, 30, 1, 11)];
+    [Row::undated(30, 10, 1, 5), Row::undated(10, 20, 1, 7), Row::undated(20, 30, 1, 11)];
 
 #[test]
 fn gear_train_under_root() {
@@ -76,7 +76,7 @@ fn words_of_the_gear_train() {
 fn gear_train_under_adopt() {
     assert_eq!(build_all(&GEAR_TRAIN, ADOPT, ON).built, refused(8));
     let mut rows = GEAR_TRAIN.to_vec();
-    rows.push(Row::new(0, 99, 0, 100));
+    rows.push(Row::undated(0, 99, 0, 100));
     let image = whole(&rows, ADOPT, ON);
     assert_eq!(
         bodies(&image),
@@ -232,7 +232,7 @@ fn a_numeral_between_two_rings_is_no_entry() {
 
 #[test]
 fn a_ring_of_one_row() {
-    let rows = [Row::new(5, 5, 1, -4)];
+    let rows = [Row::undated(5, 5, 1, -4)];
     let image = whole(&rows, ROOT, ON);
     assert_eq!(bodies(&image), [[5, 0, 2, 0, 1, 1, 0, 1], [5, 1, 1, 1, 1, 2, 1, 1]]);
     assert_eq!(image.totals(), [0, 0, -4]);
@@ -302,15 +302,15 @@ fn two_rows_of_one_numeral_in_a_ring() {
 /// Regular: 40, and 50 with 51 below. Orphans: 10, and 60 with 61 below. Island: 4 over 3 and 70, 3
 /// over 4.
 const MIXED: [Row; 9] = [
-    Row::new(3, 4, 0, 1),
-    Row::new(0, 50, 9, 2),
-    Row::new(77, 60, 5, 4),
-    Row::new(4, 3, 0, 8),
-    Row::new(60, 61, 0, 16),
-    Row::new(50, 51, 0, 32),
-    Row::new(0, 40, 1, 64),
-    Row::new(4, 70, 0, 128),
-    Row::new(78, 10, 1, 256),
+    Row::undated(3, 4, 0, 1),
+    Row::undated(0, 50, 9, 2),
+    Row::undated(77, 60, 5, 4),
+    Row::undated(4, 3, 0, 8),
+    Row::undated(60, 61, 0, 16),
+    Row::undated(50, 51, 0, 32),
+    Row::undated(0, 40, 1, 64),
+    Row::undated(4, 70, 0, 128),
+    Row::undated(78, 10, 1, 256),
 ];
 
 #[test]
@@ -716,10 +716,10 @@ fn the_adopting_numeral_does_not_count_but_the_entry_numeral_does() {
 #[test]
 fn minutes_of_a_ring_at_their_ends() {
     let rows = [
-        Row::new(2, 1, 0, i32::MIN),
-        Row::new(1, 2, 0, i32::MIN),
-        Row::new(9, 9, 0, i32::MAX),
-        Row::new(9, 8, 0, -1),
+        Row::undated(2, 1, 0, i32::MIN),
+        Row::undated(1, 2, 0, i32::MIN),
+        Row::undated(9, 9, 0, i32::MAX),
+        Row::undated(9, 8, 0, -1),
     ];
     let image = whole(&rows, ROOT, ON);
     let low = i32::MIN as i64;
@@ -816,7 +816,8 @@ fn the_listing_holds_2_700_nodes_entries_included() {
 
 #[test]
 fn rings_of_one_row_on_a_full_board() {
-    let rows: Vec<Row> = (1..=1_024).map(|k| Row::new(1_025 - k, 1_025 - k, k % 7, 3)).collect();
+    let rows: Vec<Row> =
+        (1..=1_024).map(|k| Row::undated(1_025 - k, 1_025 - k, k % 7, 3)).collect();
     let image = whole(&rows, ROOT, ON);
     assert_eq!(image.built.nodes, 2_048);
     let mut expected = Vec::new();

@@ -14,7 +14,7 @@ const ON: Start = Start::ParentZero;
 
 /// A row whose minutes are 1.
 fn row(parent: u32, numeral: u32, order: u32) -> Row {
-    Row::new(parent, numeral, order, 1)
+    Row::undated(parent, numeral, order, 1)
 }
 
 /// Builds with room for one node to a row. Both ways to form the kept paths give the same.
@@ -288,12 +288,12 @@ fn rows_hang_below_the_kept_row_of_their_parent() {
 #[test]
 fn a_tree_is_built_as_ever() {
     let rows = [
-        Row::new(2, 4, 1, -8),
-        Row::new(0, 1, 1, 1),
-        Row::new(1, 2, 2, 2),
-        Row::new(1, 3, 1, 4),
-        Row::new(0, 9, 0, 16),
-        Row::new(4, 5, 0, 32),
+        Row::undated(2, 4, 1, -8),
+        Row::undated(0, 1, 1, 1),
+        Row::undated(1, 2, 2, 2),
+        Row::undated(1, 3, 1, 4),
+        Row::undated(0, 9, 0, 16),
+        Row::undated(4, 5, 0, 32),
     ];
     let image = build_all(&rows, ON);
     let usual = image_in(rows.len(), |index, totals| build(&rows, 0, None, ON, index, totals));
@@ -472,10 +472,10 @@ fn node_limit() {
 fn widest_words() {
     let max = u32::MAX;
     let rows = [
-        Row::new(max, 1, max, i32::MIN),
-        Row::new(0, max, max, i32::MIN),
-        Row::new(max, max - 1, max - 1, i32::MAX),
-        Row::new(max - 1, 1, 0, 3),
+        Row::undated(max, 1, max, i32::MIN),
+        Row::undated(0, max, max, i32::MIN),
+        Row::undated(max, max - 1, max - 1, i32::MAX),
+        Row::undated(max - 1, 1, 0, 3),
     ];
     let image = build_all(&rows, ON);
     assert_eq!(image.built, accepted(3, 1));

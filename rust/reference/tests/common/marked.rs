@@ -3,13 +3,13 @@
 use reference::*;
 
 pub const MARKED: [Row; 7] = [
-    Row::new(0, 10, 1, 5),
-    Row::new(10, 20, 2, 3),
-    Row::new(10, 30, 1, 4),
-    Row::new(20, 40, 1, 2),
-    Row::new(30, 40, 1, 1),
-    Row::new(40, 20, 1, -1),
-    Row::new(90, 91, 1, 7),
+    Row::undated(0, 10, 1, 5),
+    Row::undated(10, 20, 2, 3),
+    Row::undated(10, 30, 1, 4),
+    Row::undated(20, 40, 1, 2),
+    Row::undated(30, 40, 1, 1),
+    Row::undated(40, 20, 1, -1),
+    Row::undated(90, 91, 1, 7),
 ];
 
 /// The board to which the rows were added one after the other.
