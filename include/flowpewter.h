@@ -7,9 +7,11 @@
  * their row number, the smaller first. Rows that no path from a start row reaches are orphans, as a part is whose
  * parent isn't drawn yet: by default they have paths of their own behind all others (flowpewter_build_default), and an
  * option code has them adopted, left over or refused (flowpewter_build). For a list of numerals, another build has each
- * numeral once, where it is closest to a start row (flowpewter_build_shortest). An index is also built from a levelled
- * list, whose columns are levels, as large makers send it (flowpewter_build_levelled). The other calls look into an
- * index by rank. docs/INDEX-FORMAT.md has examples, word by word.
+ * numeral once, where it is closest to a start row (flowpewter_build_shortest). A row also has days, its first and its
+ * last: a dated build has the paths whose rows have days in common, as the parts were in a window of days
+ * (flowpewter_build_dated). An index is also built from a levelled list, whose columns are levels, as large makers send
+ * it (flowpewter_build_levelled). The other calls look into an index by rank. docs/INDEX-FORMAT.md has examples, word
+ * by word.
  *
  * Link with target/staticlib/libflowpewter.a, which `rt staticlib flowpewter` makes. It is compiled for x86-64 Linux
  * (System V calls, any x86-64 processor, position-independent) and for nothing else; of the C library it takes memcpy,
@@ -24,11 +26,11 @@
  * even if the call is refused or ignores them. No slice that a call writes may overlap another slice of the call.
  *
  * Stack. Boards are passed and returned by value, and working space is on the stack. No call takes 256 KB of it.
- * Measured by tests/stack.c: a replay 144 KB, an edit 118 KB, a build of a board 111 KB, flowpewter_sound 58 KB,
- * flowpewter_empty 29 KB, a build of a levelled list 15 KB, any other call next to nothing; a board in a variable of
- * your own is 29 KB more. The usual 8 MB of a Linux thread is plenty. A thread with a small stack is not: musl gives
- * 128 KiB where nothing is said, and an edit or a build beside a board of your own would run over its end. There, ask
- * for 512 KB by pthread_attr_setstacksize.
+ * Measured by tests/stack.c: a replay 206 KB, an edit 168 KB, a build of a board 149 KB, flowpewter_sound 83 KB,
+ * flowpewter_empty 41 KB, a build of a levelled list 15 KB, any other call next to nothing; a board in a variable of
+ * your own is 41 KB more. The usual 8 MB of a Linux thread is plenty. A thread with a small stack is not: musl gives
+ * 128 KiB where nothing is said, and an edit or a build would run over its end. There, ask for 512 KB by
+ * pthread_attr_setstacksize.
  *
  * Comparing boards. Two boards are the same when their counts, their first `count` rows, their kept and undone numbers
  * and their first `kept + undone` journal entries are; of an entry that takes a row out, `row` isn't read and doesn't
@@ -47,11 +49,12 @@ extern "C" {
 #endif
 
 /* Why a call was refused; 0 is no refusal. Of the reasons that hold, the one with the smallest number is given; but a
- * levelled list is refused by 18 and 19 before 9.
+ * levelled list is refused by 18 and 19 before 9, an added row by 20 after 2 and before 3, and a dated build by 20
+ * after 6 and before 7.
  *
- * A refused edit returns the board it got. A refused build zeroes both slices and its two counts. A refused navigation
- * or sum writes nothing and returns counts and sums of 0. A refused replay writes nothing and returns no calls and the
- * empty board. */
+ * A refused edit returns the board it got. A refused build zeroes its slices, the days of a dated one too, and its two
+ * counts. A refused navigation or sum writes nothing and returns counts and sums of 0. A refused replay writes nothing
+ * and returns no calls and the empty board. */
 enum {
     FLOWPEWTER_REFUSED_UNSOUND_BOARD = 1,      /* the board isn't sound: see flowpewter_sound */
     FLOWPEWTER_REFUSED_NUMERAL_ZERO = 2,       /* an added row has numeral 0 */
@@ -59,11 +62,13 @@ enum {
     FLOWPEWTER_REFUSED_NO_SUCH_ROW = 4,        /* a withdrawn or remarked row number is 0 or above the count */
     FLOWPEWTER_REFUSED_NOTHING_KEPT = 5,       /* undo finds no kept step */
     FLOWPEWTER_REFUSED_UNKNOWN_CODE = 6,       /* the option code is above 23 */
-    FLOWPEWTER_REFUSED_DEPTH_WITH_ORPHANS = 7, /* a depth is given and orphans aren't ignored */
+    FLOWPEWTER_REFUSED_DEPTH_WITH_ORPHANS = 7, /* a depth is given and orphans aren't ignored; a dated build is refused
+                                                  where they aren't, with a depth or without */
     FLOWPEWTER_REFUSED_NO_START_ROW = 8,       /* there is an orphan to adopt, on an island or not, and no start row to
                                                   adopt it */
-    FLOWPEWTER_REFUSED_TOO_MANY_NODES = 9,     /* over 65,535 nodes, or more than the index or the totals hold:
-                                                  FLOWPEWTER_INDEX_LEN and FLOWPEWTER_TOTALS_LEN say what they need */
+    FLOWPEWTER_REFUSED_TOO_MANY_NODES = 9,     /* over 65,535 nodes, or more than the index, the totals or the days of a
+                                                  dated build hold: FLOWPEWTER_INDEX_LEN, FLOWPEWTER_TOTALS_LEN and
+                                                  FLOWPEWTER_DAYS_LEN say what they need */
     FLOWPEWTER_REFUSED_CLOSING_NODE = 10,      /* a node closes a cycle, under FLOWPEWTER_CYCLE_ERROR; below every
                                                   entry one does */
     FLOWPEWTER_REFUSED_SHARED_NUMERAL = 11,    /* two nodes share a numeral, under FLOWPEWTER_MULTI_ERROR; or a node
@@ -84,13 +89,14 @@ enum {
     FLOWPEWTER_REFUSED_NOT_WHOLE_LINES = 18,   /* a levelled list has a width of 0 or above 8, or the number of its
                                                   cells isn't a multiple of the width */
     FLOWPEWTER_REFUSED_TOO_MANY_LINES = 19,    /* a levelled list has more than 512 lines */
+    FLOWPEWTER_REFUSED_NO_DAYS = 20,           /* the first day of an added row, or of a window, is after its last */
     /* by flowpewter_replay as a whole; what it says of each call is one of the above */
     FLOWPEWTER_REFUSED_PART_OF_CALL = 101,     /* the words are no whole number of calls */
     FLOWPEWTER_REFUSED_UNKNOWN_CALL = 102,     /* a call is of no known kind */
     FLOWPEWTER_REFUSED_FEW_REFUSAL_WORDS = 103 /* there are fewer refusal words than calls */
 };
 
-/* ---- boards; refusals 1 to 5 and 17 */
+/* ---- boards; refusals 1 to 5, 17 and 20 */
 
 enum {
     FLOWPEWTER_MAX_ROWS = 1024,     /* places for rows on a board */
@@ -99,13 +105,28 @@ enum {
     FLOWPEWTER_JOURNAL_PLACES = 512 /* places for journal entries on a board */
 };
 
-/* A row: parent 0 is none, the numeral is 1 or more, minutes are negative for a deduction. */
+/* The last day there is. Days are numbered from 0; what day 0 is, callers agree among themselves. */
+#define FLOWPEWTER_LAST_DAY UINT32_C(4294967295)
+
+/* A row: parent 0 is none, the numeral is 1 or more, minutes are negative for a deduction. Its days are those from the
+ * first to the last, both included; builds without a window don't read them. A row without days given must have all
+ * days, 0 and FLOWPEWTER_LAST_DAY: flowpewter_undated_row makes one. Don't leave the last two out of an initializer,
+ * which would make both 0. */
 typedef struct flowpewter_row {
     uint32_t parent;
     uint32_t numeral;
     uint32_t order;
     int32_t minutes;
+    uint32_t first_day;
+    uint32_t last_day;
 } flowpewter_row;
+
+/* A row entered without days: all days are its days. */
+static inline flowpewter_row flowpewter_undated_row(uint32_t parent, uint32_t numeral, uint32_t order,
+                                                    int32_t minutes) {
+    flowpewter_row row = {parent, numeral, order, minutes, 0, FLOWPEWTER_LAST_DAY};
+    return row;
+}
 
 /* Kinds of journal entry. An entry of another kind can't be carried out. */
 enum {
@@ -150,19 +171,20 @@ flowpewter_board flowpewter_empty(void);
 /* Whether the count is at most 1,024, the kept number and the undone number at most 256 each, every held row has
  * numeral 1 or more, and the newest kept entry and the newest undone one (if any) can each be carried out on the held
  * rows. Every board that edits make from the empty one is sound. Older entries aren't looked at: on a board from
- * elsewhere an undo or a redo can leave one that isn't sound. */
+ * elsewhere an undo or a redo can leave one that isn't sound. Nor are days: on a board from elsewhere the first day of
+ * a row may be after its last, and such a row is on no path of a dated build. */
 bool flowpewter_sound(flowpewter_board board);
 
 /* An accepted add, withdraw or remark becomes the newest kept step; of 257 the oldest is forgotten, and so are all
  * undone steps. */
 
-/* Puts the row at the end. 1, 2, 3. */
+/* Puts the row at the end. 1, 2, 20, 3. */
 flowpewter_edited flowpewter_add(flowpewter_board board, flowpewter_row row);
 
 /* Takes out row number k; later rows move up by one. 1, 4. */
 flowpewter_edited flowpewter_withdraw(flowpewter_board board, size_t k);
 
-/* Gives row number k new minutes. 1, 4. */
+/* Gives row number k new minutes; its days stay. 1, 4. */
 flowpewter_edited flowpewter_remark(flowpewter_board board, size_t k, int32_t minutes);
 
 /* Goes back to the rows before the newest kept step, which becomes the newest undone one and can be redone. 1, 5. */
@@ -175,14 +197,14 @@ flowpewter_edited flowpewter_undo(flowpewter_board board);
  * one. */
 flowpewter_edited flowpewter_redo(flowpewter_board board);
 
-/* Edits as words, five to a call: its kind, then what it takes; words that it doesn't use are ignored. */
+/* Edits as words, seven to a call: its kind, then what it takes; words that it doesn't use are ignored. */
 enum {
-    FLOWPEWTER_CALL_ADD = 0,      /* parent, numeral, order, minutes (the bits of an int32_t) */
+    FLOWPEWTER_CALL_ADD = 0,      /* parent, numeral, order, minutes (the bits of an int32_t), first day, last day */
     FLOWPEWTER_CALL_WITHDRAW = 1, /* row number */
     FLOWPEWTER_CALL_REMARK = 2,   /* row number, minutes */
     FLOWPEWTER_CALL_UNDO = 3,
     FLOWPEWTER_CALL_REDO = 4,
-    FLOWPEWTER_CALL_WORDS = 5
+    FLOWPEWTER_CALL_WORDS = 7
 };
 
 typedef struct flowpewter_replayed {
@@ -195,7 +217,8 @@ typedef struct flowpewter_replayed {
  * of it stays. 101, 102, 103. */
 flowpewter_replayed flowpewter_replay(const uint32_t *words, size_t words_len, uint32_t *refusals, size_t refusals_len);
 
-/* ---- builds; refusals 1 and 6 to 12, by default and of the shortest placement 1 and 9, of levelled lists 18, 19, 9 */
+/* ---- builds; refusals 1 and 6 to 12, by default and of the shortest placement 1 and 9, dated 1, 6, 20, 7 and 9 to 11,
+ * of levelled lists 18, 19, 9 */
 
 /* The index: a table of contents, then a body for each node, in the order of their ranks. */
 enum {
@@ -227,6 +250,11 @@ enum {
 #define FLOWPEWTER_INDEX_LEN(nodes) (FLOWPEWTER_CONTENTS + FLOWPEWTER_BODY * (size_t)(nodes))
 #define FLOWPEWTER_TOTALS_LEN(nodes) ((size_t)(nodes) + 1)
 #define FLOWPEWTER_BODY_AT(rank) (FLOWPEWTER_CONTENTS + FLOWPEWTER_BODY * ((size_t)(rank) - 1))
+
+/* Words of the days of so many nodes of a dated build, and where the first day of a rank stands; the last day is the
+ * word behind it. */
+#define FLOWPEWTER_DAYS_LEN(nodes) (2 * (size_t)(nodes))
+#define FLOWPEWTER_DAYS_AT(rank) (2 * ((size_t)(rank) - 1))
 
 /* What becomes of orphans, rows that no path from a start row reaches.
  *
@@ -265,7 +293,8 @@ typedef struct flowpewter_built {
     uint32_t refusal;
     uint32_t nodes;
     uint32_t left; /* rows that end no node, 0 where orphans aren't ignored; of the shortest placement also rows whose
-                      numeral stands by another row; of a levelled list the lines wholly blank */
+                      numeral stands by another row; of a dated build also rows without days left; of a levelled list
+                      the lines wholly blank */
 } flowpewter_built;
 
 /* Builds the index of the board's paths, and the running totals of their minutes: 0, then the minutes added node by
@@ -299,6 +328,21 @@ flowpewter_built flowpewter_build_default(flowpewter_board board, uint32_t *inde
  * flowpewter_build. */
 flowpewter_built flowpewter_build_shortest(flowpewter_board board, bool by_list, const uint32_t *list, size_t list_len,
                                            uint32_t *index, size_t index_len, int64_t *totals, size_t totals_len);
+
+/* Builds the index of the board's paths as they were in a window of days, first_day to last_day, both included; their
+ * running totals; and the days of each node, the first and the last, two words a node in the order of their ranks.
+ * Words and totals beyond stay. 1, 6, 20, 7, then 9 to 11; a refused one zeroes all three slices.
+ *
+ * A path's days are those that all its rows and the window have in common; it is a node only if there are any. So a
+ * node's days are within its parent's, and nothing is below a path without days. What is refused, counted, listed and
+ * summed is over the paths with days left: one without closes no cycle and shares no numeral.
+ *
+ * Code, depth and start rule are those of flowpewter_build, but only a code that ignores orphans is taken, code 0 for
+ * one: any other is refused by 7, with a depth or without. The days of what hangs over a start row don't matter. */
+flowpewter_built flowpewter_build_dated(flowpewter_board board, uint32_t code, bool has_depth, int32_t depth,
+                                        bool by_list, const uint32_t *list, size_t list_len, uint32_t first_day,
+                                        uint32_t last_day, uint32_t *index, size_t index_len, int64_t *totals,
+                                        size_t totals_len, uint32_t *days, size_t days_len);
 
 enum {
     FLOWPEWTER_MAX_WIDTH = 8,  /* most cells of a line */

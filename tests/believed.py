@@ -20,11 +20,12 @@ ENTRIES = "board history build levelled spans navigate climb sums index_check wh
 
 # The theorems whose statements are followed.
 THEOREMS = {
-    "guarantee": "guarantee sound-build unsound-build sound-default default-leaves-none sound-shortest unsound-shortest levelled-build marked-cases built-accepted built-distances built-links",
+    "guarantee": "guarantee sound-build unsound-build sound-default default-leaves-none sound-shortest unsound-shortest sound-dated unsound-dated days-unread levelled-build marked-cases built-accepted built-distances built-links",
     "options": "taken-apart composed",
     "islands": "entries-entered entered-unique",
     "nodes": "joining-unique nodes-unique entry-closes entry-shares accepted-leaves-none",
     "shortest": "shortest-unique",
+    "dated": "dated-unique",
     "machine": "simulation final-state earlier-and-later undo-redo redo-undo board-undo-redo board-redo-undo",
     "listing": "listing-outcome",
 }

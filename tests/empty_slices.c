@@ -3,12 +3,13 @@
 #include "flowpewter.h"
 #include <stdio.h>
 
-enum { WORDS = FLOWPEWTER_INDEX_LEN(1), TOTALS = FLOWPEWTER_TOTALS_LEN(1) };
+enum { WORDS = FLOWPEWTER_INDEX_LEN(1), TOTALS = FLOWPEWTER_TOTALS_LEN(1), DAYS = FLOWPEWTER_DAYS_LEN(1) };
 
-/* A board with one row, and its index and totals. */
+/* A board with one row, with days 3 to 5, and its index, totals and days. */
 static flowpewter_board one;
 static uint32_t words[WORDS];
 static int64_t totals[TOTALS];
+static uint32_t days[DAYS];
 static int wrong;
 
 static void expect(const char *what, bool right) {
@@ -78,6 +79,41 @@ static void shortest_placements(void) {
     expect("index of a placement", flowpewter_index_check(words, WORDS));
 }
 
+/* The refusal of a dated build by parent 0, in a window of all days, into slices of which any may be none. */
+static uint32_t dated_into(uint32_t *index, size_t index_len, int64_t *sums, size_t sums_len, uint32_t *of_nodes,
+                           size_t of_nodes_len) {
+    return flowpewter_build_dated(one, 0, false, 0, false, NULL, 0, 0, FLOWPEWTER_LAST_DAY, index, index_len, sums,
+                                  sums_len, of_nodes, of_nodes_len)
+        .refusal;
+}
+
+static void dated_builds(void) {
+    const uint32_t short_slice = FLOWPEWTER_REFUSED_TOO_MANY_NODES;
+    refused("dated, no slices", dated_into(NULL, 0, NULL, 0, NULL, 0), short_slice);
+    refused("dated, no words", dated_into(NULL, 0, totals, TOTALS, days, DAYS), short_slice);
+    refused("dated, no totals", dated_into(words, WORDS, NULL, 0, days, DAYS), short_slice);
+    refused("dated, no days", dated_into(words, WORDS, totals, TOTALS, NULL, 0), short_slice);
+    refused("dated, code 24",
+            flowpewter_build_dated(one, 24, false, 0, true, NULL, 0, 6, 5, NULL, 0, NULL, 0, NULL, 0).refusal,
+            FLOWPEWTER_REFUSED_UNKNOWN_CODE);
+    refused("dated, a window of no days",
+            flowpewter_build_dated(one, 3, false, 0, true, NULL, 0, 6, 5, NULL, 0, NULL, 0, NULL, 0).refusal,
+            FLOWPEWTER_REFUSED_NO_DAYS);
+    refused("dated, orphans as roots",
+            flowpewter_build_dated(one, 3, false, 0, true, NULL, 0, 5, 6, NULL, 0, NULL, 0, NULL, 0).refusal,
+            FLOWPEWTER_REFUSED_DEPTH_WITH_ORPHANS);
+
+    flowpewter_built built =
+        flowpewter_build_dated(one, 0, false, 0, true, NULL, 0, 3, 5, words, WORDS, totals, TOTALS, NULL, 0);
+    expect("dated, from no numerals", built.refusal == 0 && built.nodes == 0 && built.left == 1);
+    built = flowpewter_build_dated(one, 0, false, 0, false, NULL, 0, 6, 9, words, WORDS, totals, TOTALS, NULL, 0);
+    expect("dated, no node has days", built.refusal == 0 && built.nodes == 0 && built.left == 1);
+    built = flowpewter_build_dated(one, 0, false, 0, false, NULL, 0, 5, 9, words, WORDS, totals, TOTALS, days, DAYS);
+    expect("dated, a list that isn't read", built.refusal == 0 && built.nodes == 1 && built.left == 0);
+    expect("its days", days[FLOWPEWTER_DAYS_AT(1)] == 5 && days[FLOWPEWTER_DAYS_AT(1) + 1] == 5);
+    expect("its index", flowpewter_index_check(words, WORDS));
+}
+
 static void builds_of_no_lines(void) {
     const uint32_t short_slice = FLOWPEWTER_REFUSED_TOO_MANY_NODES;
     const uint32_t not_whole = FLOWPEWTER_REFUSED_NOT_WHOLE_LINES;
@@ -144,11 +180,12 @@ static void replays(void) {
 }
 
 int main(void) {
-    one = flowpewter_add(flowpewter_empty(), (flowpewter_row){0, 10, 1, 5}).board;
+    one = flowpewter_add(flowpewter_empty(), (flowpewter_row){0, 10, 1, 5, 3, 5}).board;
     builds_into_nothing();
     builds_from_no_numerals();
     builds_that_read_no_list();
     shortest_placements();
+    dated_builds();
     builds_of_no_lines();
     lines_into_nothing();
     navigation_of_nothing();

@@ -15,6 +15,8 @@ static void structs(void) {
     FIELD(row, numeral);
     FIELD(row, order);
     FIELD(row, minutes);
+    FIELD(row, first_day);
+    FIELD(row, last_day);
     STRUCT(entry);
     FIELD(entry, kind);
     FIELD(entry, at);
@@ -57,6 +59,7 @@ static void constants(void) {
     CONSTANT(MAX_KEPT);
     CONSTANT(MAX_UNDONE);
     CONSTANT(JOURNAL_PLACES);
+    CONSTANT(LAST_DAY);
     CONSTANT(MAX_WIDTH);
     CONSTANT(MAX_LINES);
     CONSTANT(MAX_NODES);
@@ -67,7 +70,10 @@ static void constants(void) {
     CONSTANT(ORPHAN_BIT);
     CONSTANT(CALL_WORDS);
     printf("entries %d %d %d\n", FLOWPEWTER_ENTRY_TAKE_OUT, FLOWPEWTER_ENTRY_PUT_IN, FLOWPEWTER_ENTRY_SET);
-    printf("lengths %zu %zu\n", FLOWPEWTER_INDEX_LEN(7), FLOWPEWTER_TOTALS_LEN(7));
+    printf("lengths %zu %zu %zu\n", FLOWPEWTER_INDEX_LEN(7), FLOWPEWTER_TOTALS_LEN(7), FLOWPEWTER_DAYS_LEN(7));
+    const flowpewter_row row = flowpewter_undated_row(1, 2, 3, 4);
+    printf("undated row %u %u %u %d %u %u\n", (unsigned)row.parent, (unsigned)row.numeral, (unsigned)row.order,
+           (int)row.minutes, (unsigned)row.first_day, (unsigned)row.last_day);
 }
 
 static void refusals(void) {
@@ -90,6 +96,7 @@ static void refusals(void) {
     REFUSAL(NothingUndone, NOTHING_UNDONE);
     REFUSAL(NotWholeLines, NOT_WHOLE_LINES);
     REFUSAL(TooManyLines, TOO_MANY_LINES);
+    REFUSAL(NoDays, NO_DAYS);
     REFUSAL(PartOfCall, PART_OF_CALL);
     REFUSAL(UnknownCall, UNKNOWN_CALL);
     REFUSAL(FewRefusalWords, FEW_REFUSAL_WORDS);

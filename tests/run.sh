@@ -41,6 +41,7 @@ example() {
 }
 
 example valve
+example renewal
 example sheet
 
 compile stack tests/stack.c

@@ -12,6 +12,7 @@ enum {
     NODES = FLOWPEWTER_MAX_ROWS,
     WORDS = FLOWPEWTER_INDEX_LEN(NODES),
     TOTALS = FLOWPEWTER_TOTALS_LEN(NODES),
+    DAYS = FLOWPEWTER_DAYS_LEN(NODES),
     CALLS = NODES + 5,
     CALL_WORDS = FLOWPEWTER_CALL_WORDS * CALLS,
     CELLS = FLOWPEWTER_MAX_WIDTH * FLOWPEWTER_MAX_LINES,
@@ -26,6 +27,7 @@ enum {
 static flowpewter_board board;
 static uint32_t words[WORDS];
 static int64_t totals[TOTALS];
+static uint32_t days[DAYS];
 static uint32_t list[NODES];
 /* Adds that fill a board, then each other kind of call. */
 static uint32_t calls[CALL_WORDS];
@@ -48,7 +50,7 @@ static void empty(void) { made = flowpewter_empty(); }
 static void sound(void) { answer = flowpewter_sound(board); }
 
 static void add(void) {
-    edited = flowpewter_add(board, (flowpewter_row){0, 1, 1, 1});
+    edited = flowpewter_add(board, flowpewter_undated_row(0, 1, 1, 1));
     refusal = edited.refusal;
 }
 
@@ -103,6 +105,15 @@ static void build_by_list(void) {
 static void build_shortest(void) {
     static const uint32_t start[] = {1};
     flowpewter_built built = flowpewter_build_shortest(board, true, start, 1, words, WORDS, totals, TOTALS);
+    refusal = built.refusal;
+    answer = built.nodes;
+}
+
+static void build_dated(void) {
+    static const uint32_t start[] = {1};
+    const uint32_t code = FLOWPEWTER_CODE(FLOWPEWTER_ORPHAN_IGNORE, FLOWPEWTER_MULTI_ERROR, FLOWPEWTER_CYCLE_ERROR);
+    flowpewter_built built = flowpewter_build_dated(board, code, true, NODES, true, start, 1, 0, FLOWPEWTER_LAST_DAY,
+                                                    words, WORDS, totals, TOTALS, days, DAYS);
     refusal = built.refusal;
     answer = built.nodes;
 }
@@ -170,6 +181,7 @@ static const struct job {
     {"build_default", build, 0, NODES},
     {"build", build_by_list, 0, NODES},
     {"build_shortest", build_shortest, 0, NODES},
+    {"build_dated", build_dated, 0, NODES},
     {"build_levelled", build_levelled, 0, CELLS},
     {"span", span, 0, FLOWPEWTER_BODY * NODES},
     {"descendants", descendants, 0, NODES},
@@ -204,7 +216,7 @@ static size_t used(unsigned char *stack, void (*call)(void)) {
 static void fill_board(void) {
     board.count = FLOWPEWTER_MAX_ROWS;
     for (uint32_t i = 0; i < NODES; i++) {
-        board.rows[i] = (flowpewter_row){i, i + 1, 1, 1};
+        board.rows[i] = flowpewter_undated_row(i, i + 1, 1, 1);
     }
     board.kept = FLOWPEWTER_MAX_KEPT;
     board.undone = FLOWPEWTER_MAX_UNDONE;
@@ -222,6 +234,7 @@ static void fill_calls(void) {
         uint32_t *words_of_call = calls + FLOWPEWTER_CALL_WORDS * i;
         words_of_call[0] = FLOWPEWTER_CALL_ADD;
         words_of_call[2] = i + 1;
+        words_of_call[6] = FLOWPEWTER_LAST_DAY;
     }
     memcpy(calls + FLOWPEWTER_CALL_WORDS * NODES, others, sizeof others);
 }

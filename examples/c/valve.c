@@ -6,20 +6,6 @@
 
 enum { NODES = 100 };
 
-/* Parent, numeral, order on the sheet, drawing minutes. */
-static const flowpewter_row pump[] = {
-    {0, 10, 1, 90},  /* pump */
-    {10, 20, 1, 45}, /* housing */
-    {10, 30, 2, 60}, /* cover */
-    {10, 40, 3, 30}, /* valve, beside the pump */
-    {20, 40, 1, 12}, /* valve, in the housing */
-    {30, 40, 1, 15}, /* valve, in the cover */
-    {40, 41, 1, 8},  /* spring */
-    {40, 42, 2, 6},  /* seat */
-    {42, 43, 1, -2}, /* seal, taken over from an older drawing */
-    {50, 51, 1, 20}, /* gasket of the flange, numeral 50, which isn't drawn yet */
-};
-
 static int refused(uint32_t refusal) {
     fprintf(stderr, "refused %" PRIu32 "\n", refusal);
     return 1;
@@ -31,6 +17,19 @@ int main(void) {
     const size_t index_len = sizeof index / sizeof index[0];
     const size_t totals_len = sizeof totals / sizeof totals[0];
 
+    /* Parent, numeral, order on the sheet, drawing minutes; no days are given. */
+    const flowpewter_row pump[] = {
+        flowpewter_undated_row(0, 10, 1, 90),  /* pump */
+        flowpewter_undated_row(10, 20, 1, 45), /* housing */
+        flowpewter_undated_row(10, 30, 2, 60), /* cover */
+        flowpewter_undated_row(10, 40, 3, 30), /* valve, beside the pump */
+        flowpewter_undated_row(20, 40, 1, 12), /* valve, in the housing */
+        flowpewter_undated_row(30, 40, 1, 15), /* valve, in the cover */
+        flowpewter_undated_row(40, 41, 1, 8),  /* spring */
+        flowpewter_undated_row(40, 42, 2, 6),  /* seat */
+        flowpewter_undated_row(42, 43, 1, -2), /* seal, taken over from an older drawing */
+        flowpewter_undated_row(50, 51, 1, 20), /* gasket of the flange, numeral 50, which isn't drawn yet */
+    };
     flowpewter_board board = flowpewter_empty();
     for (size_t i = 0; i < sizeof pump / sizeof pump[0]; i++) {
         flowpewter_edited edited = flowpewter_add(board, pump[i]);

@@ -1,15 +1,16 @@
 //! The same jobs in plain Rust, written for speed: what the library is measured against.
 //!
 //! Links and an explicit stack: rows of one numeral are a class, the children of a class are a range of the rows in
-//! sibling order, and a mark per class tells whether it stands on the path. Which numerals are on rings is found for all
-//! at once, by strongly connected components. The shortest placement is a breadth-first search over classes; its queue
+//! sibling order, and a mark per class tells whether it stands on the path. A dated build reads the days of the path
+//! from its own answer, and goes no further where none are left. Which numerals are on rings is found for all at once,
+//! by strongly connected components. The shortest placement is a breadth-first search over classes; its queue
 //! gives all tree sizes backwards and all ranks forwards, without a walk. The lines of a levelled list are sorted as
 //! arrays of their width, and each is compared with the one before. Nothing is allocated.
 
 use flowpewter::sys::{Built, Edited, Listed};
 use flowpewter::{
-    Board, Entry, Row, BODY, CLOSING_BIT, CONTENTS, LEVEL_MASK, MAX_KEPT, MAX_LINES, MAX_NODES,
-    MAX_ROWS, MAX_UNDONE, ORPHAN_BIT,
+    Board, Days, Entry, Row, BODY, CLOSING_BIT, CONTENTS, LEVEL_MASK, MAX_KEPT, MAX_LINES,
+    MAX_NODES, MAX_ROWS, MAX_UNDONE, ORPHAN_BIT,
 };
 use std::mem::replace;
 
@@ -73,6 +74,9 @@ pub fn add_in_place(board: &mut Board, row: Row) -> u32 {
     }
     if row.numeral == 0 {
         return 2;
+    }
+    if row.first_day > row.last_day {
+        return 20;
     }
     if board.count == MAX_ROWS {
         return 3;
@@ -241,6 +245,8 @@ struct Walk<'a> {
     links: &'a Links,
     bodies: &'a mut [u32],
     totals: &'a mut [i64],
+    /// The days of each node; of a build without a window none.
+    days: &'a mut [[u32; 2]],
     capacity: usize,
     count: usize,
     check: u32,
@@ -288,6 +294,21 @@ impl Walk<'_> {
         Some(rank)
     }
 
+    /// Whether the row has days among the given ones: if so, they are written as those of the next node. There is a place
+    /// for them where there is one for the node.
+    #[inline(always)]
+    fn has_days(&mut self, place: usize, [first, last]: [u32; 2]) -> bool {
+        let Row { first_day, last_day, .. } = self.rows[place];
+        let common = [first.max(first_day), last.min(last_day)];
+        if common[0] > common[1] {
+            return false;
+        }
+        if let Some(days) = self.days.get_mut(self.count) {
+            *days = common;
+        }
+        true
+    }
+
     #[inline(always)]
     fn set_size(&mut self, rank: u32) {
         let size = self.count as u32 + 1 - rank;
@@ -295,9 +316,9 @@ impl Walk<'_> {
         self.check = self.check.wrapping_add(size);
     }
 
-    /// All paths from one first row.
+    /// All paths from one first row, whose days are written.
     #[inline(always)]
-    fn tree<const ORPHAN: bool>(
+    fn tree<const ORPHAN: bool, const DATED: bool>(
         &mut self,
         first: usize,
         parent: u32,
@@ -307,11 +328,11 @@ impl Walk<'_> {
         stack: &mut [Level; MAX_ROWS + 1],
     ) -> Option<()> {
         self.reached[first] = true;
-        self.paths::<ORPHAN>(self.row(first), parent, base, limit, within, stack)
+        self.paths::<ORPHAN, DATED>(self.row(first), parent, base, limit, within, stack)
     }
 
     /// All paths that begin alike. `base` is the level above, `within` the rows that paths may have (all if none).
-    fn paths<const ORPHAN: bool>(
+    fn paths<const ORPHAN: bool, const DATED: bool>(
         &mut self,
         first: End,
         parent: u32,
@@ -339,6 +360,9 @@ impl Walk<'_> {
             top.next += 1;
             let above = top.rank;
             if ORPHAN && !within[place] {
+                continue;
+            }
+            if DATED && !self.has_days(place, self.days[above as usize - 1]) {
                 continue;
             }
             self.reached[place] = true;
@@ -389,7 +413,7 @@ impl Walk<'_> {
             }
             let entry = End { number: 0, minutes: 0, ..row };
             let before = self.count;
-            self.paths::<true>(entry, parent, base, MAX_ROWS + 1, within, stack)?;
+            self.paths::<true, false>(entry, parent, base, MAX_ROWS + 1, within, stack)?;
             // All rows below a numeral leave together, and with them each ring that it is on.
             for body in self.bodies[BODY * (before + 1)..BODY * self.count].chunks_exact(BODY) {
                 let place = body[1] as usize - 1;
@@ -514,19 +538,50 @@ pub fn build(
     index: &mut [u32],
     totals: &mut [i64],
 ) -> Built {
-    match attempt(board, code, depth, start, index, totals) {
+    let asked = Asked { code, depth, start, window: Days::ALL };
+    match attempt::<false>(board, asked, index, totals, &mut []) {
         Ok(built) => built,
         Err(refusal) => refuse(refusal, index, totals),
     }
 }
 
-fn attempt(
+/// The whole dated build, refusals in order. `start` is none for parent 0.
+#[inline(never)]
+#[allow(clippy::too_many_arguments)]
+pub fn build_dated(
     board: &Board,
     code: u32,
     depth: Option<i32>,
     start: Option<&[u32]>,
+    window: Days,
     index: &mut [u32],
     totals: &mut [i64],
+    days: &mut [u32],
+) -> Built {
+    let asked = Asked { code, depth, start, window };
+    match attempt::<true>(board, asked, index, totals, days) {
+        Ok(built) => built,
+        Err(refusal) => {
+            days.fill(0);
+            refuse(refusal, index, totals)
+        }
+    }
+}
+
+/// What a build is asked for; without a window it is all days.
+struct Asked<'a> {
+    code: u32,
+    depth: Option<i32>,
+    start: Option<&'a [u32]>,
+    window: Days,
+}
+
+fn attempt<const DATED: bool>(
+    board: &Board,
+    Asked { code, depth, start, window }: Asked<'_>,
+    index: &mut [u32],
+    totals: &mut [i64],
+    days: &mut [u32],
 ) -> Result<Built, u32> {
     if !sound(board) {
         return Err(1);
@@ -534,8 +589,11 @@ fn attempt(
     if code > 23 {
         return Err(6);
     }
+    if window.is_empty() {
+        return Err(20);
+    }
     let (orphan, multi, cycle) = (code % 4, code / 4 % 3, code / 12);
-    if depth.is_some() && orphan != 0 {
+    if (DATED || depth.is_some()) && orphan != 0 {
         return Err(7);
     }
     let rows = board.held();
@@ -550,7 +608,11 @@ fn attempt(
     if index.len() < CONTENTS || totals.is_empty() {
         return Err(9);
     }
-    let capacity = MAX_NODES.min((index.len() - CONTENTS) / BODY).min(totals.len() - 1);
+    let mut capacity = MAX_NODES.min((index.len() - CONTENTS) / BODY).min(totals.len() - 1);
+    let days = days.as_chunks_mut().0;
+    if DATED {
+        capacity = capacity.min(days.len());
+    }
     let limit = match depth {
         None => MAX_ROWS + 1,
         Some(depth) if depth < 0 => 0,
@@ -564,6 +626,7 @@ fn attempt(
         links: &links,
         bodies,
         totals,
+        days,
         capacity,
         count: 0,
         check: 0,
@@ -578,9 +641,9 @@ fn attempt(
     if limit > 0 {
         for &place in siblings {
             let place = place as usize;
-            if starts[place] {
+            if starts[place] && (!DATED || walk.has_days(place, [window.first, window.last])) {
                 last_root = walk.count as u32 + 1;
-                walk.tree::<false>(place, 0, 0, limit, &starts, &mut stack).ok_or(9u32)?;
+                walk.tree::<false, DATED>(place, 0, 0, limit, &starts, &mut stack).ok_or(9u32)?;
             }
         }
     }
@@ -596,7 +659,7 @@ fn attempt(
         for &place in siblings {
             let place = place as usize;
             if within[place] && links.parent_class[place] == NONE {
-                walk.tree::<true>(place, adopter, base, MAX_ROWS + 1, &within, &mut stack)
+                walk.tree::<true, false>(place, adopter, base, MAX_ROWS + 1, &within, &mut stack)
                     .ok_or(9u32)?;
             }
         }

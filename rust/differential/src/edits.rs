@@ -3,12 +3,13 @@
 use crate::tally::Tally;
 use crate::{baseline, builds};
 use flowpewter::sys::{self, Edited};
-use flowpewter::{Board, Entry, Row, MAX_KEPT, MAX_UNDONE};
+use flowpewter::{Board, Entry, Row, CALL_WORDS, MAX_KEPT, MAX_UNDONE};
 use generate::{history, history_on, sound_boards, unsound_boards, History, Random};
 use reference::{Call, Machine};
 
-fn row(row: reference::Row) -> Row {
-    Row::new(row.parent, row.numeral, row.order, row.minutes)
+/// The library's row of the same words.
+pub fn row(from: reference::Row) -> Row {
+    Row::new(from.parent, from.numeral, from.order, from.minutes).on(from.first_day, from.last_day)
 }
 
 /// The library's board of the same words.
@@ -170,10 +171,18 @@ pub fn boards(random: &mut Random, tally: &mut Tally) {
     }
 }
 
-fn words(call: Call, random: &mut Random) -> [u32; 5] {
-    let mut words = [random.word(), random.word(), random.word(), random.word(), random.word()];
+fn words(call: Call, random: &mut Random) -> [u32; CALL_WORDS] {
+    let mut words = [0; CALL_WORDS].map(|_| random.word());
     let used: &[u32] = match call {
-        Call::Add(row) => &[0, row.parent, row.numeral, row.order, row.minutes as u32],
+        Call::Add(row) => &[
+            0,
+            row.parent,
+            row.numeral,
+            row.order,
+            row.minutes as u32,
+            row.first_day,
+            row.last_day,
+        ],
         Call::Withdraw(k) => &[1, k as u32],
         Call::Remark(k, minutes) => &[2, k as u32, minutes as u32],
         Call::Undo => &[3],
@@ -197,11 +206,11 @@ pub fn replays(random: &mut Random, kind: History, tally: &mut Tally) {
     let calls: Vec<Call> = history(random, kind).into_iter().map(narrow).collect();
     let mut told: Vec<u32> = calls.iter().flat_map(|call| words(*call, random)).collect();
     if random.chance(1, 5) {
-        let extra = random.between(1, 4);
+        let extra = random.between(1, CALL_WORDS - 1);
         told.extend(random.noise(extra));
     }
     if random.chance(1, 5) && !calls.is_empty() {
-        told[5 * random.below(calls.len())] = random.pick(&[5, 6, 1 << 31, u32::MAX]);
+        told[CALL_WORDS * random.below(calls.len())] = random.pick(&[5, 6, 1 << 31, u32::MAX]);
     }
     let room = match random.below(5) {
         0 => random.below(calls.len() + 1),
@@ -212,9 +221,9 @@ pub fn replays(random: &mut Random, kind: History, tally: &mut Tally) {
 
     let mut after = lent.clone();
     let replayed = sys::replay(&told, &mut after);
-    let refusal = if !told.len().is_multiple_of(5) {
+    let refusal = if !told.len().is_multiple_of(CALL_WORDS) {
         101
-    } else if told.chunks(5).any(|call| call[0] > 4) {
+    } else if told.chunks(CALL_WORDS).any(|call| call[0] > 4) {
         102
     } else if room < calls.len() {
         103

@@ -8,6 +8,7 @@
 pub mod baseline;
 pub mod builds;
 pub mod databases;
+pub mod dated;
 pub mod defaults;
 pub mod edits;
 pub mod levelled;

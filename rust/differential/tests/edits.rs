@@ -13,7 +13,7 @@ fn histories() {
         }
     }
     println!("{tally}");
-    tally.expect("add", &[0, 2, 3], 100);
+    tally.expect("add", &[0, 2, 3, 20], 100);
     tally.expect("withdraw", &[0, 4], 100);
     tally.expect("remark", &[0, 4], 100);
     tally.expect("undo", &[0, 5], 100);
@@ -34,7 +34,7 @@ fn boards_that_no_history_makes() {
         edits::boards(&mut random, &mut tally);
     }
     println!("{tally}");
-    tally.expect("add", &[0, 1, 2, 3], 100);
+    tally.expect("add", &[0, 1, 2, 3, 20], 100);
     tally.expect("withdraw", &[0, 1, 4], 100);
     tally.expect("remark", &[0, 1, 4], 100);
     tally.expect("undo", &[0, 1, 5], 100);

@@ -1,8 +1,12 @@
 //! The guide's examples through the library.
 
-use flowpewter::{build, build_levelled, build_shortest, build_with_code, Board, Options, Refusal};
-use guide::{Engine, Image};
-use reference::{Row, Start};
+use differential::edits::row;
+use flowpewter::{
+    build, build_dated_with_code, build_levelled, build_shortest, build_with_code, Board, Days,
+    Options, Refusal,
+};
+use guide::{DatedImage, Engine, Image};
+use reference::{Asked, Row, Start};
 
 struct Library;
 
@@ -14,9 +18,8 @@ fn number(refusal: Refusal) -> u32 {
 
 fn holding(rows: &[Row]) -> Result<Board, u32> {
     let mut board = Board::EMPTY;
-    for row in rows {
-        let row = flowpewter::Row::new(row.parent, row.numeral, row.order, row.minutes);
-        board.add(row).map_err(number)?;
+    for added in rows {
+        board.add(row(*added)).map_err(number)?;
     }
     Ok(board)
 }
@@ -70,6 +73,28 @@ impl Engine for Library {
         let built = build_levelled(cells, width, &mut index, &mut totals).map_err(number)?;
         assert_eq!(built.nodes, index[0]);
         Ok(Image { index, totals, left: built.left })
+    }
+
+    fn build_dated(&self, rows: &[Row], asked: Asked) -> Result<DatedImage, u32> {
+        let (board, start) = (holding(rows)?, start_rule(asked.start));
+        let window = Days::new(asked.window.first, asked.window.last);
+        let mut index = vec![0; flowpewter::index_len(NODES)];
+        let mut totals = vec![0; flowpewter::totals_len(NODES)];
+        let mut days = vec![0; flowpewter::days_len(NODES)];
+        let (code, depth) = (asked.code, asked.depth);
+        let built = build_dated_with_code(
+            &board,
+            code,
+            depth,
+            start,
+            window,
+            &mut index,
+            &mut totals,
+            &mut days,
+        )
+        .map_err(number)?;
+        assert_eq!(built.nodes, index[0]);
+        Ok(DatedImage { image: Image { index, totals, left: built.left }, days })
     }
 
     fn descendants(

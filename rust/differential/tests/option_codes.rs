@@ -3,7 +3,8 @@
 
 use flowpewter::sys::{self, Built};
 use flowpewter::{
-    bodies, build, index_len, span, totals_len, Board, Cycle, Multi, Options, Orphan, Row,
+    bodies, build, build_dated, days_len, index_len, node_days, span, totals_len, Board, Cycle,
+    Days, Multi, Options, Orphan, Row,
 };
 
 /// Row 3 is an orphan. No numeral stands twice. The last start row in sibling order is row 1, of rank 2.
@@ -82,6 +83,33 @@ fn by_options(rows: &[Row], options: &Options) -> Image {
     Image { built, index, totals }
 }
 
+/// A dated build by its code, in a window of all days, and the days after it.
+fn dated_by_code(rows: &[Row], code: u32) -> (Image, [u32; days_len(NODES)]) {
+    let (mut index, mut totals) = ([99; index_len(NODES)], [99; totals_len(NODES)]);
+    let (mut days, board) = ([99; days_len(NODES)], board(rows));
+    let window = Days::ALL;
+    let built =
+        sys::build_dated(&board, code, None, None, window, &mut index, &mut totals, &mut days);
+    (Image { built, index, totals }, days)
+}
+
+/// A dated build by the safe face.
+fn dated_by_options(rows: &[Row], options: &Options) -> (Image, [u32; days_len(NODES)]) {
+    let (mut index, mut totals) = ([99; index_len(NODES)], [99; totals_len(NODES)]);
+    let (mut days, board) = ([99; days_len(NODES)], board(rows));
+    let built = match build_dated(&board, options, Days::ALL, &mut index, &mut totals, &mut days) {
+        Ok(built) => accepted(built.nodes, built.left),
+        Err(refusal) => refused(refusal.number()),
+    };
+    (Image { built, index, totals }, days)
+}
+
+/// A refused dated build.
+fn dated_refused(refusal: u32) -> (Image, [u32; days_len(NODES)]) {
+    let (index, totals) = ([0; index_len(NODES)], [0; totals_len(NODES)]);
+    (Image { built: refused(refusal), index, totals }, [0; days_len(NODES)])
+}
+
 /// 0 where the orphan is left over, 1 where it is refused, 2 where it stands below the last start row, 3 where it is a
 /// root.
 fn orphan_seen(code: u32) -> u32 {
@@ -133,6 +161,30 @@ fn each_code_is_composed_of_the_choices_seen() {
     }
 }
 
+/// The words are those of the build without a window, where orphans are ignored; else it is refused, without a depth too.
+#[test]
+fn dated_builds_take_the_codes_under_which_orphans_are_ignored() {
+    for code in 0..24 {
+        for rows in BOARDS {
+            let dated = dated_by_code(rows, code);
+            if orphan_seen(code) != 0 {
+                assert_eq!(dated, dated_refused(7), "code {code}");
+                continue;
+            }
+            let (image, days) = dated;
+            assert_eq!(image, by_code(rows, code), "code {code}");
+            if image.built.refusal != 0 {
+                assert_eq!(days, [0; days_len(NODES)], "code {code}");
+                continue;
+            }
+            let of_nodes = (1..=image.built.nodes).map(|rank| node_days(&days, rank));
+            assert!(of_nodes.into_iter().all(|of_node| of_node == Some(Days::ALL)), "code {code}");
+            let beyond = days_len(image.built.nodes as usize);
+            assert!(days[beyond..].iter().all(|word| *word == 99), "code {code}");
+        }
+    }
+}
+
 #[test]
 fn codes_above_23_are_refused() {
     // Those of the second kind are a code of 0 to 24 but for a higher bit.
@@ -142,6 +194,7 @@ fn codes_above_23_are_refused() {
     for code in codes {
         for rows in BOARDS {
             assert_eq!(by_code(rows, code).built, refused(6), "code {code}");
+            assert_eq!(dated_by_code(rows, code), dated_refused(6), "code {code}");
         }
     }
 }
@@ -161,6 +214,8 @@ fn options_have_the_code_under_which_their_choices_are_seen() {
                 assert_eq!(cycle_seen(code), cycle_number, "{options:?}");
                 for rows in BOARDS {
                     assert_eq!(by_options(rows, &options), by_code(rows, code), "{options:?}");
+                    let dated = dated_by_options(rows, &options);
+                    assert_eq!(dated, dated_by_code(rows, code), "{options:?}");
                 }
             }
         }

@@ -1,6 +1,7 @@
 //! A parts list by value, and its edits.
 #![forbid(unsafe_code)]
 
+use crate::days::{Days, LAST_DAY};
 use crate::refusal::Refusal;
 use crate::sys;
 
@@ -13,19 +14,51 @@ pub const MAX_UNDONE: usize = 256;
 /// Places for journal entries on a board.
 pub const JOURNAL_PLACES: usize = MAX_KEPT + MAX_UNDONE;
 
-/// A row of a board. Parent 0 is none; minutes are negative for a deduction.
+/// A row of a board. Parent 0 is none; minutes are negative for a deduction. Its days are those from the first to the
+/// last, both included; only [`build_dated`](crate::build_dated) reads them.
+///
+/// ```
+/// use flowpewter::{Days, Row};
+///
+/// let valve = Row::new(10, 40, 1, 30);
+/// assert_eq!(valve.days(), Days::ALL);
+/// assert_eq!(valve.on(366, 730).days(), Days::new(366, 730));
+/// ```
 #[repr(C)]
-#[derive(Clone, Copy, Debug, PartialEq, Eq, Hash, Default)]
+#[derive(Clone, Copy, Debug, PartialEq, Eq, Hash)]
 pub struct Row {
     pub parent: u32,
     pub numeral: u32,
     pub order: u32,
     pub minutes: i32,
+    pub first_day: u32,
+    pub last_day: u32,
 }
 
 impl Row {
+    /// What a place holds before a row is put there: all words 0, the days too.
+    const BLANK: Row = Row::new(0, 0, 0, 0).on(0, 0);
+
+    /// A row entered without days, which gets all there are.
     pub const fn new(parent: u32, numeral: u32, order: u32, minutes: i32) -> Row {
-        Row { parent, numeral, order, minutes }
+        Row { parent, numeral, order, minutes, first_day: 0, last_day: LAST_DAY }
+    }
+
+    /// The same row with these days.
+    pub const fn on(self, first_day: u32, last_day: u32) -> Row {
+        Row { first_day, last_day, ..self }
+    }
+
+    /// The days of the row; none on a board from elsewhere where the first is after the last.
+    pub const fn days(self) -> Days {
+        Days::new(self.first_day, self.last_day)
+    }
+}
+
+impl Default for Row {
+    /// Without days given.
+    fn default() -> Row {
+        Row::new(0, 0, 0, 0)
     }
 }
 
@@ -126,10 +159,10 @@ impl Board {
     /// No rows and no steps.
     pub const EMPTY: Board = Board {
         count: 0,
-        rows: [Row::new(0, 0, 0, 0); MAX_ROWS],
+        rows: [Row::BLANK; MAX_ROWS],
         kept: 0,
         undone: 0,
-        journal: [Entry { kind: 0, at: 0, row: Row::new(0, 0, 0, 0) }; JOURNAL_PLACES],
+        journal: [Entry { kind: 0, at: 0, row: Row::BLANK }; JOURNAL_PLACES],
     };
 
     /// The rows held, in order; of a count above 1,024, which no sound board has, all places.
@@ -178,7 +211,8 @@ impl Board {
     /// Whether the board is one that edits and builds take: the count is at most 1,024, the kept number and the undone
     /// number at most 256 each, every held row has numeral 1 or more, and the newest kept entry and the newest undone
     /// one, if any, can each be carried out on the held rows. Every board that edits make from the empty one is sound.
-    /// Older entries aren't looked at: on a board from elsewhere an undo or a redo can leave one that isn't sound.
+    /// Older entries aren't looked at: on a board from elsewhere an undo or a redo can leave one that isn't sound. Nor
+    /// are days.
     ///
     /// ```
     /// use flowpewter::Board;
@@ -191,7 +225,20 @@ impl Board {
         sys::sound(self)
     }
 
-    /// Puts a row at the end. Refused with 1, 2 or 3.
+    /// Puts a row at the end. Refused with 1, 2, 20 or 3, in this order.
+    ///
+    /// ```
+    /// use flowpewter::{Board, Refusal, Row};
+    ///
+    /// let mut board = Board::EMPTY;
+    /// let valve = Row::new(10, 40, 1, 30);
+    /// assert_eq!(board.add(valve.on(731, 730)), Err(Refusal::NoDays));
+    /// board.add(valve.on(730, 730))?;
+    /// board.withdraw(1)?;
+    /// board.undo()?;
+    /// assert_eq!(board.held(), [valve.on(730, 730)]);
+    /// # Ok::<(), Refusal>(())
+    /// ```
     pub fn add(&mut self, row: Row) -> Result<(), Refusal> {
         self.take(sys::add(self, row))
     }
@@ -201,7 +248,7 @@ impl Board {
         self.take(sys::withdraw(self, number))
     }
 
-    /// Gives row `number`, counted from 1, new minutes. Refused with 1 or 4.
+    /// Gives row `number`, counted from 1, new minutes; its days stay. Refused with 1 or 4.
     pub fn remark(&mut self, number: usize, minutes: i32) -> Result<(), Refusal> {
         self.take(sys::remark(self, number, minutes))
     }
@@ -241,7 +288,7 @@ impl Board {
 }
 
 /// Words of a call that [`replay`] reads.
-pub const CALL_WORDS: usize = 5;
+pub const CALL_WORDS: usize = 7;
 
 /// An edit as a value. Row numbers are counted from 1.
 #[derive(Clone, Copy, Debug, PartialEq, Eq, Hash)]
@@ -257,23 +304,26 @@ impl Call {
     /// The words by which [`replay`] knows the call.
     pub fn words(self) -> [u32; CALL_WORDS] {
         match self {
-            Call::Add(row) => [0, row.parent, row.numeral, row.order, row.minutes as u32],
-            Call::Withdraw(number) => [1, number, 0, 0, 0],
-            Call::Remark(number, minutes) => [2, number, minutes as u32, 0, 0],
-            Call::Undo => [3, 0, 0, 0, 0],
-            Call::Redo => [4, 0, 0, 0, 0],
+            Call::Add(row) => {
+                let Row { parent, numeral, order, minutes, first_day, last_day } = row;
+                [0, parent, numeral, order, minutes as u32, first_day, last_day]
+            }
+            Call::Withdraw(number) => [1, number, 0, 0, 0, 0, 0],
+            Call::Remark(number, minutes) => [2, number, minutes as u32, 0, 0, 0, 0],
+            Call::Undo => [3, 0, 0, 0, 0, 0, 0],
+            Call::Redo => [4, 0, 0, 0, 0, 0, 0],
         }
     }
 }
 
-/// Runs the calls that the words tell, five to a call, from the empty board. The refusal number of each call, 0 for
+/// Runs the calls that the words tell, seven to a call, from the empty board. The refusal number of each call, 0 for
 /// none, goes to the front of `refusals`; the rest stays. Answers the board after the calls. Refused with 101, 102 or
 /// 103.
 ///
 /// ```
 /// use flowpewter::{replay, Call, Refusal, Row};
 ///
-/// let row = Row::new(0, 10, 1, 30);
+/// let row = Row::new(0, 10, 1, 30).on(366, 730);
 /// let calls = [Call::Add(row), Call::Withdraw(2), Call::Undo, Call::Undo, Call::Redo, Call::Redo];
 /// let words: Vec<u32> = calls.into_iter().flat_map(Call::words).collect();
 /// let mut refusals = [9; 7];

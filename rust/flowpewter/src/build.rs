@@ -13,7 +13,7 @@ use crate::sys;
 /// the rows that are left, and what is below it; then the next, until no row is left.
 #[derive(Clone, Copy, Debug, PartialEq, Eq, Hash, Default)]
 pub enum Orphan {
-    /// They are left over. The only choice that takes a [depth](Options::depth).
+    /// They are left over. The only choice that takes a [depth](Options::depth), or a window.
     Ignore = 0,
     /// The build is refused.
     Error = 1,
@@ -103,7 +103,8 @@ pub struct Built {
     /// Entries of islands among them.
     pub nodes: u32,
     /// Rows that end no node: 0 with [`Orphan::Adopt`] and [`Orphan::Root`]; of the shortest placement also rows whose
-    /// numeral stands by another row. Of a levelled list, lines wholly blank.
+    /// numeral stands by another row; of a dated build also rows without days left. Of a levelled list, lines wholly
+    /// blank.
     pub left: u32,
 }
 

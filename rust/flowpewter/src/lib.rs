@@ -1,8 +1,9 @@
 //! Parts lists with undo and redo, their forest of paths as an index, navigation and sums.
 //!
-//! * [`Board`]: rows with a parent, a numeral, an order and minutes; add, withdraw, remark, undo and redo.
+//! * [`Board`]: rows with a parent, a numeral, an order, minutes and days; add, withdraw, remark, undo and redo.
 //! * [`build`]: the forest of a board's paths as an index, and running totals of the minutes; by default no row is left
 //!   out of it.
+//! * [`build_dated`]: the paths as they were in a window of days, as such an index, and the days of each node.
 //! * [`build_shortest`]: each numeral of a board once, as close to a start row as it can stand, as such an index.
 //! * [`build_levelled`]: the forest of a levelled list, whose columns are levels, as such an index.
 //! * [`span`], [`descendants`], [`ancestors`], [`siblings`]: navigation by rank.
@@ -12,13 +13,15 @@
 //!
 //! Every call takes every argument: what can't be done is refused, by a [`Refusal`], and never a panic.
 //!
-//! Boards are passed by value and working space is on the stack: a replay takes some 145 KB of it, a build or an edit
-//! up to 120 KB, and a board in a variable is 29 KB more. That is little for the 2 MB of a Rust thread; a thread made
+//! Boards are passed by value and working space is on the stack: a replay takes some 210 KB of it, a build or an edit
+//! up to 170 KB, and a board in a variable is 41 KB more. That is little for the 2 MB of a Rust thread; a thread made
 //! with `Builder::stack_size` wants 512 KB. The library that is linked is compiled for x86-64 Linux alone.
 #![deny(unsafe_code)]
 
 mod board;
 mod build;
+mod dated;
+mod days;
 mod index;
 mod levelled;
 mod refusal;
@@ -29,6 +32,8 @@ pub use board::{
     replay, Board, Call, Entry, Row, CALL_WORDS, JOURNAL_PLACES, MAX_KEPT, MAX_ROWS, MAX_UNDONE,
 };
 pub use build::{build, build_with_code, Built, Cycle, Multi, Options, Orphan, Start};
+pub use dated::{build_dated, build_dated_with_code, days_len, node_days};
+pub use days::{Days, LAST_DAY};
 pub use index::{
     ancestors, bodies, descendants, index_check, index_len, path_sum, siblings, span, subtree_sum,
     totals_len, Ancestors, Body, BODY, CLOSING_BIT, CONTENTS, LEVEL_MASK, MAX_NODES, ORPHAN_BIT,

@@ -5,9 +5,10 @@ use std::error::Error;
 use std::fmt;
 
 /// Why a call was refused. Of the conditions that hold, the one with the smallest number is given; but a levelled list is
-/// refused with 18 and 19 before 9.
+/// refused with 18 and 19 before 9, an added row with 20 after 2 and before 3, and a dated build with 20 after 6 and
+/// before 7.
 ///
-/// A refused edit leaves the board as it was, a refused build zeroes both slices, a refused navigation, sum or replay
+/// A refused edit leaves the board as it was, a refused build zeroes its slices, a refused navigation, sum or replay
 /// writes nothing. The names and numbers are those of the C header, `FLOWPEWTER_REFUSED_UNSOUND_BOARD` and so on.
 ///
 /// ```
@@ -34,11 +35,11 @@ pub enum Refusal {
     NothingKept = 5,
     /// The option code is above 23.
     UnknownCode = 6,
-    /// A depth is given and orphans aren't ignored.
+    /// A depth is given and orphans aren't ignored; of a dated build also without a depth.
     DepthWithOrphans = 7,
     /// Orphans are to be adopted, there is one, on an island too, and there is no start row to adopt it.
     NoStartRow = 8,
-    /// There are over 65,535 nodes, or more than one of the two slices holds.
+    /// There are over 65,535 nodes, or more than one of the slices holds.
     TooManyNodes = 9,
     /// A node closes a cycle, and cycles are refused.
     ClosingNode = 10,
@@ -60,6 +61,8 @@ pub enum Refusal {
     NotWholeLines = 18,
     /// A levelled list has more than 512 lines.
     TooManyLines = 19,
+    /// The first day of an added row, or of a window, is after its last.
+    NoDays = 20,
     /// Replay: the words are no whole number of calls.
     PartOfCall = 101,
     /// Replay: a call is of no known kind.
@@ -69,7 +72,7 @@ pub enum Refusal {
 }
 
 /// All refusals, in the order of their numbers.
-pub const REFUSALS: [Refusal; 22] = [
+pub const REFUSALS: [Refusal; 23] = [
     Refusal::UnsoundBoard,
     Refusal::NumeralZero,
     Refusal::FullBoard,
@@ -89,6 +92,7 @@ pub const REFUSALS: [Refusal; 22] = [
     Refusal::NothingUndone,
     Refusal::NotWholeLines,
     Refusal::TooManyLines,
+    Refusal::NoDays,
     Refusal::PartOfCall,
     Refusal::UnknownCall,
     Refusal::FewRefusalWords,
@@ -123,7 +127,7 @@ impl fmt::Display for Refusal {
             Refusal::NoSuchRow => "there is no row of that number",
             Refusal::NothingKept => "there is no kept step to undo",
             Refusal::UnknownCode => "the option code is above 23",
-            Refusal::DepthWithOrphans => "a depth is given and orphans aren't ignored",
+            Refusal::DepthWithOrphans => "a depth or a window is given and orphans aren't ignored",
             Refusal::NoStartRow => "there is an orphan and no start row to adopt it",
             Refusal::TooManyNodes => "there are more nodes than 65,535 or than the slices hold",
             Refusal::ClosingNode => "a node closes a cycle",
@@ -136,6 +140,7 @@ impl fmt::Display for Refusal {
             Refusal::NothingUndone => "there is no undone step to redo",
             Refusal::NotWholeLines => "the cells are no whole number of lines of 1 to 8 cells",
             Refusal::TooManyLines => "the list has more than 512 lines",
+            Refusal::NoDays => "the first day is after the last",
             Refusal::PartOfCall => "the words are no whole number of calls",
             Refusal::UnknownCall => "a call is of no known kind",
             Refusal::FewRefusalWords => "there are fewer refusal words than calls",

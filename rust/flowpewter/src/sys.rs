@@ -5,6 +5,7 @@
 #![allow(unsafe_code)]
 
 use crate::board::{Board, Row};
+use crate::days::Days;
 
 /// What an edit answers; of a refused edit the board is the one it got.
 #[repr(C)]
@@ -110,6 +111,23 @@ extern "C" {
         index_len: usize,
         totals: *mut i64,
         totals_len: usize,
+    ) -> Built;
+    fn flowpewter_build_dated(
+        board: Board,
+        code: u32,
+        has_depth: bool,
+        depth: i32,
+        by_list: bool,
+        list: *const u32,
+        list_len: usize,
+        first_day: u32,
+        last_day: u32,
+        index: *mut u32,
+        index_len: usize,
+        totals: *mut i64,
+        totals_len: usize,
+        days: *mut u32,
+        days_len: usize,
     ) -> Built;
     fn flowpewter_build_levelled(
         cells: *const u32,
@@ -252,6 +270,40 @@ pub fn build_shortest(
             index.len(),
             totals.as_mut_ptr(),
             totals.len(),
+        )
+    }
+}
+
+/// Start rows are those with parent 0 where there is no list. The code is that of [`crate::Options::code`].
+#[allow(clippy::too_many_arguments)]
+pub fn build_dated(
+    board: &Board,
+    code: u32,
+    depth: Option<i32>,
+    list: Option<&[u32]>,
+    window: Days,
+    index: &mut [u32],
+    totals: &mut [i64],
+    days: &mut [u32],
+) -> Built {
+    let numerals = list.unwrap_or(&[]);
+    unsafe {
+        flowpewter_build_dated(
+            *board,
+            code,
+            depth.is_some(),
+            depth.unwrap_or(0),
+            list.is_some(),
+            numerals.as_ptr(),
+            numerals.len(),
+            window.first,
+            window.last,
+            index.as_mut_ptr(),
+            index.len(),
+            totals.as_mut_ptr(),
+            totals.len(),
+            days.as_mut_ptr(),
+            days.len(),
         )
     }
 }

@@ -8,7 +8,8 @@ use differential::baseline;
 use differential::databases::DATABASES;
 use flowpewter::sys::{self, Built, Edited};
 use flowpewter::{
-    index_len, totals_len, Board, Entry, Row, JOURNAL_PLACES, MAX_LINES, MAX_NODES, MAX_WIDTH,
+    days_len, index_len, totals_len, Board, Days, Entry, Row, JOURNAL_PLACES, LAST_DAY, MAX_LINES,
+    MAX_NODES, MAX_WIDTH,
 };
 use generate::Random;
 use std::hint::black_box;
@@ -230,6 +231,55 @@ fn shortest_placements() {
     shortest("chain", &chain(), 20);
     shortest("leaf roots", &leaves(), 20);
     shortest("sample", &sample(), 200);
+}
+
+/// A dated build by code 0 on both sides, into slices for as many nodes as there can be.
+fn dated(job: &str, rows: &[Row], window: Days, rounds: u32) {
+    let board = board(rows);
+    let (mut index, mut totals) = (vec![0; index_len(MAX_NODES)], vec![0; totals_len(MAX_NODES)]);
+    let mut days = vec![0; days_len(MAX_NODES)];
+    let (mut other, mut others, mut other_days) = (index.clone(), totals.clone(), days.clone());
+    let mut library = |board: &Board| {
+        sys::build_dated(board, 0, None, None, window, &mut index, &mut totals, &mut days)
+    };
+    let mut rust = |board: &Board| {
+        let (index, totals, days) = (&mut other, &mut others, &mut other_days);
+        baseline::build_dated(board, 0, None, None, window, index, totals, days)
+    };
+    let built = library(&board);
+    assert_eq!(built, rust(&board));
+    let times = race(
+        rounds,
+        || {
+            black_box(library(black_box(&board)));
+        },
+        || {
+            black_box(rust(black_box(&board)));
+        },
+    );
+    assert!(index == other && totals == others && days == other_days);
+    let work = format!("{} rows, {} nodes, {} rows left", rows.len(), built.nodes, built.left);
+    print(&format!("build dated, {job}"), &work, times);
+}
+
+/// The ladder; on day 20 and later only its odd numerals have days.
+fn wide_by_turns() -> Vec<Row> {
+    let days = |numeral| if numeral % 2 == 1 { (0, LAST_DAY) } else { (0, 9) };
+    let turned = |row: Row| row.on(days(row.numeral).0, days(row.numeral).1);
+    wide().into_iter().map(turned).collect()
+}
+
+/// The tree; a row has the days from its number on.
+fn growing_tree() -> Vec<Row> {
+    tree().into_iter().map(|row| row.on(row.numeral, LAST_DAY)).collect()
+}
+
+fn dated_builds() {
+    dated("tree, all days", &growing_tree(), Days::ALL, 20);
+    dated("tree, a window of half its rows", &growing_tree(), Days::new(512, 512), 20);
+    dated("tree, a window of 20 rows", &growing_tree(), Days::new(20, 20), 20);
+    dated("wide, all days", &wide_by_turns(), Days::ALL, 1);
+    dated("wide, a window of one path", &wide_by_turns(), Days::new(20, 20), 100);
 }
 
 const WIDTH: usize = MAX_WIDTH as usize;
@@ -490,6 +540,7 @@ fn main() {
     default_build("tree, every eighth row not drawn", &undrawn_tree(), 20);
     default_build("sample", &sample(), 200);
     shortest_placements();
+    dated_builds();
     levelled_lists();
     edits();
     navigation();

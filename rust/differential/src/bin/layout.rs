@@ -16,7 +16,7 @@ macro_rules! constants {
 }
 
 fn main() {
-    layout!("row", Row, parent numeral order minutes);
+    layout!("row", Row, parent numeral order minutes first_day last_day);
     layout!("entry", Entry, kind at row);
     layout!("board", Board, count rows kept undone journal);
     layout!("edited", Edited, board refusal);
@@ -26,10 +26,12 @@ fn main() {
     layout!("listed", Listed, refusal len);
     layout!("climbed", Climbed, refusal len links);
     layout!("summed", Summed, refusal sum);
-    constants!(MAX_ROWS MAX_KEPT MAX_UNDONE JOURNAL_PLACES MAX_WIDTH MAX_LINES);
+    constants!(MAX_ROWS MAX_KEPT MAX_UNDONE JOURNAL_PLACES LAST_DAY MAX_WIDTH MAX_LINES);
     constants!(MAX_NODES CONTENTS BODY LEVEL_MASK CLOSING_BIT ORPHAN_BIT CALL_WORDS);
     println!("entries {} {} {}", Entry::TAKE_OUT, Entry::PUT_IN, Entry::SET);
-    println!("lengths {} {}", index_len(7), totals_len(7));
+    println!("lengths {} {} {}", index_len(7), totals_len(7), days_len(7));
+    let Row { parent, numeral, order, minutes, first_day, last_day } = Row::new(1, 2, 3, 4);
+    println!("undated row {parent} {numeral} {order} {minutes} {first_day} {last_day}");
     for refusal in REFUSALS {
         println!("{refusal:?} {}", refusal.number());
     }

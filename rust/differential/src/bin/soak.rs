@@ -2,7 +2,7 @@
 //! Prints its seed first and the counts at the end; fails at the first difference.
 #![forbid(unsafe_code)]
 
-use differential::{builds, defaults, edits, levelled, navigation, shortest, Tally};
+use differential::{builds, dated, defaults, edits, levelled, navigation, shortest, Tally};
 use generate::{Random, HISTORIES};
 use std::time::{SystemTime, UNIX_EPOCH};
 
@@ -28,23 +28,30 @@ fn main() {
             builds::islands(&mut random, &mut tally);
             defaults::cases(&mut random, &mut tally);
             shortest::cases(&mut random, &mut tally);
+            dated::cases(&mut random, &mut tally);
+            dated::without_a_window(&mut random, &mut tally);
             levelled::cases(&mut random, &mut tally);
             navigation::calls(&mut random, &mut tally);
             navigation::checks(&mut random, &mut tally);
         }
         builds::codes(&mut random, &mut tally);
+        dated::codes(&mut random, &mut tally);
         defaults::drawn_in_any_order(&mut random, &mut tally);
         let kind = HISTORIES[round as usize % HISTORIES.len()];
         edits::histories(&mut random, kind, &mut tally);
         edits::replays(&mut random, kind, &mut tally);
         edits::boards(&mut random, &mut tally);
         shortest::edited(&mut random, kind, &mut tally);
+        dated::edited(&mut random, kind, &mut tally);
         builds::unsound(&mut random, &mut tally);
         shortest::unsound(&mut random, &mut tally);
+        dated::unsound(&mut random, &mut tally);
         if round % 20 == 0 {
             shortest::full(&mut random, &mut tally);
+            dated::full(&mut random, &mut tally);
             let nodes = random.between(65_530, 65_540);
             builds::limits(&mut random, nodes, &mut tally);
+            dated::limits(&mut random, nodes, &mut tally);
         }
     }
     println!("{tally}");
