@@ -67,18 +67,8 @@ pub fn cases(random: &mut Random, tally: &mut Tally) {
     let case = build_case(random);
     let reference = holding(random, &case.rows);
     let (built, after) = compare(&reference, &case, tally);
-    if built.refusal != 0 {
-        return;
-    }
-    navigate_some(random, built, &after, tally);
-}
-
-/// The index check, and every navigation call from two ranks of what a build left.
-pub fn navigate_some(random: &mut Random, built: Built, after: &BuildCase, tally: &mut Tally) {
-    assert!(sys::index_check(&after.index));
-    for _ in 0..2 {
-        let rank = random.between(1, built.nodes.max(1) as usize) as u32;
-        navigate(random, after, rank, tally);
+    if built.refusal == 0 {
+        navigation::of_build(random, built.nodes, &after.index, &after.totals, tally);
     }
 }
 

@@ -1,7 +1,7 @@
 //! Dated builds, and navigation of what they leave; builds without a window of rows with any days.
 
 use crate::builds::CODES;
-use crate::edits::{board, edit};
+use crate::edits::{after_history, board};
 use crate::tally::Tally;
 use crate::{baseline, navigation};
 use flowpewter::{build_dated_with_code, node_days, sys, Board, Days};
@@ -9,8 +9,7 @@ use generate::builds::start_of;
 use generate::dated::{self, dated, dated_case, dated_case_of, large_case, Dating, DATINGS};
 use generate::shortest::{net, NETS};
 use generate::{
-    bare_board, build_case, history, holding, small_dated_boards, unsound_boards, DatedCase,
-    History, Random,
+    bare_board, build_case, holding, small_dated_boards, unsound_boards, DatedCase, History, Random,
 };
 use reference::{build_dated_board, Body, Built, MAX_ROWS};
 
@@ -97,10 +96,7 @@ fn within_those_above(case: &DatedCase, built: Built, after: &DatedCase) {
 fn run(random: &mut Random, reference: &reference::Board, case: &DatedCase, tally: &mut Tally) {
     let (built, after) = compare(reference, case, tally);
     if built.refusal == 0 {
-        for _ in 0..2 {
-            let rank = random.between(1, built.nodes.max(1) as usize) as u32;
-            navigation::from_rank(random, &after.index, &after.totals, rank, tally);
-        }
+        navigation::of_build(random, built.nodes, &after.index, &after.totals, tally);
     }
 }
 
@@ -126,13 +122,7 @@ pub fn full(random: &mut Random, tally: &mut Tally) {
 
 /// Builds of the board that a list of calls leaves.
 pub fn edited(random: &mut Random, kind: History, tally: &mut Tally) {
-    let mut reference = reference::Board::EMPTY;
-    let mut library = sys::empty();
-    for call in history(random, kind) {
-        reference = reference.call(call).board;
-        library = edit(&library, call).board;
-    }
-    assert!(library == board(&reference));
+    let reference = after_history(random, kind);
     for _ in 0..3 {
         let case = dated_case_of(random, reference.held().to_vec());
         run(random, &reference, &case, tally);

@@ -1,8 +1,9 @@
 //! Builds by default, and navigation of what they leave.
 
 use crate::baseline;
-use crate::builds::{navigate_some, same};
+use crate::builds::same;
 use crate::edits::{board, edit};
+use crate::navigation;
 use crate::tally::Tally;
 use flowpewter::{build, sys, Board, Options};
 use generate::builds::size;
@@ -87,7 +88,7 @@ pub fn cases(random: &mut Random, tally: &mut Tally) {
     let reference = holding(random, &case.rows);
     let (built, after) = compare(&reference, &case, tally);
     if built.refusal == 0 {
-        navigate_some(random, built, &after, tally);
+        navigation::of_build(random, built.nodes, &after.index, &after.totals, tally);
     }
 }
 

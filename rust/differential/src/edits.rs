@@ -39,6 +39,18 @@ pub fn edit(board: &Board, call: Call) -> Edited {
     }
 }
 
+/// The reference's board after a list of calls from the empty one; the library's has the same words.
+pub fn after_history(random: &mut Random, kind: History) -> reference::Board {
+    let mut reference = reference::Board::EMPTY;
+    let mut library = sys::empty();
+    for call in history(random, kind) {
+        reference = reference.call(call).board;
+        library = edit(&library, call).board;
+    }
+    assert!(library == board(&reference));
+    reference
+}
+
 /// The baseline's edit; it has no withdrawal and no remark.
 fn by_baseline(board: Board, call: Call) -> Option<Edited> {
     match call {

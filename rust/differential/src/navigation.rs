@@ -26,6 +26,15 @@ pub fn from_rank(random: &mut Random, index: &[u32], totals: &[i64], rank: u32, 
     compare(&case, tally);
 }
 
+/// The index check, and every navigation call from two ranks of what a build of so many nodes left.
+pub fn of_build(random: &mut Random, nodes: u32, index: &[u32], totals: &[i64], tally: &mut Tally) {
+    assert!(sys::index_check(index), "{index:?}");
+    for _ in 0..2 {
+        let rank = random.between(1, nodes.max(1) as usize) as u32;
+        from_rank(random, index, totals, rank, tally);
+    }
+}
+
 /// Whether a node of the rank's span, which there must be, is further below its parent than one level.
 fn levels_left_out(index: &[u32], rank: u32) -> bool {
     let body = |rank: u32| Body::read(index, rank as usize);

@@ -1,14 +1,12 @@
 //! Builds of shortest placements, and navigation of what they leave.
 
-use crate::edits::{board, edit};
+use crate::edits::{after_history, board};
 use crate::tally::Tally;
 use crate::{baseline, navigation};
 use flowpewter::sys;
 use generate::builds::start_of;
 use generate::shortest::{self, full_case, shortest_case, shortest_case_of, NETS};
-use generate::{
-    bare_board, history, holding, small_boards, unsound_boards, History, Random, ShortestCase,
-};
+use generate::{bare_board, holding, small_boards, unsound_boards, History, Random, ShortestCase};
 use reference::{build_shortest_board, Body, Built, Row};
 use std::collections::HashSet;
 
@@ -56,20 +54,11 @@ fn once_each(rows: &[Row], built: Built, index: &[u32]) {
     }
 }
 
-/// The index check, and every navigation call from some ranks of what a build left.
-fn navigate(random: &mut Random, built: Built, after: &ShortestCase, tally: &mut Tally) {
-    assert!(sys::index_check(&after.index), "{after:?}");
-    for _ in 0..2 {
-        let rank = random.between(1, built.nodes.max(1) as usize) as u32;
-        navigation::from_rank(random, &after.index, &after.totals, rank, tally);
-    }
-}
-
 /// One build on both sides of a sound board that holds the rows of the case, and navigation of what it leaves.
 fn run(random: &mut Random, reference: &reference::Board, case: &ShortestCase, tally: &mut Tally) {
     let (built, after) = compare(reference, case, tally);
     if built.refusal == 0 {
-        navigate(random, built, &after, tally);
+        navigation::of_build(random, built.nodes, &after.index, &after.totals, tally);
     }
 }
 
@@ -91,13 +80,7 @@ pub fn full(random: &mut Random, tally: &mut Tally) {
 
 /// A build of the board that a list of calls leaves.
 pub fn edited(random: &mut Random, kind: History, tally: &mut Tally) {
-    let mut reference = reference::Board::EMPTY;
-    let mut library = sys::empty();
-    for call in history(random, kind) {
-        reference = reference.call(call).board;
-        library = edit(&library, call).board;
-    }
-    assert!(library == board(&reference));
+    let reference = after_history(random, kind);
     let case = shortest_case_of(random, reference.held().to_vec());
     run(random, &reference, &case, tally);
 }

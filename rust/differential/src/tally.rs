@@ -1,5 +1,6 @@
 //! How often each call gave each refusal, and how often builds reached a case.
 
+use generate::Random;
 use std::collections::BTreeMap;
 use std::fmt;
 
@@ -13,6 +14,22 @@ pub struct Tally {
 impl Tally {
     pub fn new() -> Tally {
         Tally::default()
+    }
+
+    /// The counts of a comparison that is run so many times, from one seed; the seed and the counts are printed.
+    pub fn of_runs(
+        name: &str,
+        seed: u64,
+        times: usize,
+        run: impl Fn(&mut Random, &mut Tally),
+    ) -> Tally {
+        let mut random = Random::announced(name, seed);
+        let mut tally = Tally::new();
+        for _ in 0..times {
+            run(&mut random, &mut tally);
+        }
+        println!("{tally}");
+        tally
     }
 
     pub fn note(&mut self, call: &'static str, refusal: u32) {
@@ -49,6 +66,17 @@ impl Tally {
         for ((name, refusal), count) in &self.seen {
             let foreign = *name == call && !refusals.contains(refusal);
             assert!(!foreign, "{call} gave {refusal} {count} times\n{self}");
+        }
+    }
+
+    /// Fails if a navigation call on indexes that were built gave a refusal number that it can give less than `least`
+    /// times, or gave another: what a build leaves has no fault, so that 13 and 15 can't be.
+    pub fn expect_navigation(&self, least: u64) {
+        for call in ["span", "subtree_sum", "path_sum"] {
+            self.expect(call, &[0, 14], least);
+        }
+        for call in ["descendants", "ancestors", "siblings"] {
+            self.expect(call, &[0, 14, 16], least);
         }
     }
 

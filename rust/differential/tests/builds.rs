@@ -6,12 +6,7 @@ use generate::{islands, ties, Random};
 
 #[test]
 fn builds_of_generated_rows() {
-    let mut random = Random::announced("builds", 61);
-    let mut tally = Tally::new();
-    for _ in 0..12_000 {
-        builds::cases(&mut random, &mut tally);
-    }
-    println!("{tally}");
+    let tally = Tally::of_runs("builds", 61, 12_000, builds::cases);
     tally.expect("build", &[0, 6, 7, 8, 9, 10, 11, 12], 200);
     tally.expect("build_default", &[0, 9], 60);
     tally.expect_reached(&ties::FACTS, 40);
@@ -21,12 +16,7 @@ fn builds_of_generated_rows() {
 
 #[test]
 fn builds_of_islands() {
-    let mut random = Random::announced("islands", 65);
-    let mut tally = Tally::new();
-    for _ in 0..6_000 {
-        builds::islands(&mut random, &mut tally);
-    }
-    println!("{tally}");
+    let tally = Tally::of_runs("islands", 65, 6_000, builds::islands);
     tally.expect("build", &[0, 8, 9, 10, 11, 12], 50);
     tally.expect_reached(&islands::FACTS, 60);
     tally.expect_reached(&islands::REFUSALS, 60);
@@ -35,23 +25,13 @@ fn builds_of_islands() {
 
 #[test]
 fn every_code() {
-    let mut random = Random::announced("codes", 62);
-    let mut tally = Tally::new();
-    for _ in 0..500 {
-        builds::codes(&mut random, &mut tally);
-    }
-    println!("{tally}");
+    let tally = Tally::of_runs("codes", 62, 500, builds::codes);
     tally.expect_reached(&CODES, 100);
 }
 
 #[test]
 fn unsound_boards() {
-    let mut random = Random::announced("unsound boards", 63);
-    let mut tally = Tally::new();
-    for _ in 0..100 {
-        builds::unsound(&mut random, &mut tally);
-    }
-    println!("{tally}");
+    let tally = Tally::of_runs("unsound boards", 63, 100, builds::unsound);
     tally.expect("build", &[1], 1_000);
     tally.expect("build_default", &[1], 50);
 }

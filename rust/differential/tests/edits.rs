@@ -1,18 +1,15 @@
 //! Edits, soundness and replay against the reference.
 
 use differential::{edits, Tally};
-use generate::{Random, HISTORIES};
+use generate::HISTORIES;
 
 #[test]
 fn histories() {
-    let mut random = Random::announced("histories", 41);
-    let mut tally = Tally::new();
-    for _ in 0..100 {
+    let tally = Tally::of_runs("histories", 41, 100, |random, tally| {
         for kind in HISTORIES {
-            edits::histories(&mut random, kind, &mut tally);
+            edits::histories(random, kind, tally);
         }
-    }
-    println!("{tally}");
+    });
     tally.expect("add", &[0, 2, 3, 20], 100);
     tally.expect("withdraw", &[0, 4], 100);
     tally.expect("remark", &[0, 4], 100);
@@ -28,12 +25,7 @@ fn histories() {
 
 #[test]
 fn boards_that_no_history_makes() {
-    let mut random = Random::announced("boards", 42);
-    let mut tally = Tally::new();
-    for _ in 0..100 {
-        edits::boards(&mut random, &mut tally);
-    }
-    println!("{tally}");
+    let tally = Tally::of_runs("boards", 42, 100, edits::boards);
     tally.expect("add", &[0, 1, 2, 3, 20], 100);
     tally.expect("withdraw", &[0, 1, 4], 100);
     tally.expect("remark", &[0, 1, 4], 100);
@@ -45,13 +37,10 @@ fn boards_that_no_history_makes() {
 
 #[test]
 fn replays() {
-    let mut random = Random::announced("replays", 43);
-    let mut tally = Tally::new();
-    for _ in 0..400 {
+    let tally = Tally::of_runs("replays", 43, 400, |random, tally| {
         for kind in HISTORIES {
-            edits::replays(&mut random, kind, &mut tally);
+            edits::replays(random, kind, tally);
         }
-    }
-    println!("{tally}");
+    });
     tally.expect("replay", &[0, 101, 102, 103], 100);
 }

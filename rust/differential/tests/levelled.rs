@@ -7,22 +7,12 @@ use generate::Random;
 
 #[test]
 fn levelled_lists() {
-    let mut random = Random::announced("levelled lists", 71);
-    let mut tally = Tally::new();
-    for _ in 0..12_000 {
-        levelled::cases(&mut random, &mut tally);
-    }
-    println!("{tally}");
+    let tally = Tally::of_runs("levelled lists", 71, 12_000, levelled::cases);
     tally.expect("build_levelled", &[0, 9, 18, 19], 400);
     tally.expect_reached(&WIDTHS, 400);
     tally.expect_reached(&FACTS, 60);
     tally.expect_reached(&REFUSALS, 10);
-    tally.expect("span", &[0, 14], 400);
-    tally.expect("descendants", &[0, 14, 16], 400);
-    tally.expect("ancestors", &[0, 14, 16], 400);
-    tally.expect("siblings", &[0, 14, 16], 400);
-    tally.expect("subtree_sum", &[0, 14], 400);
-    tally.expect("path_sum", &[0, 14], 400);
+    tally.expect_navigation(400);
     tally.expect_reached(&["descendants with levels left out"], 400);
 }
 

@@ -2,16 +2,10 @@
 
 use differential::navigation::{self, LEVELS};
 use differential::Tally;
-use generate::Random;
 
 #[test]
 fn navigation_on_any_slices() {
-    let mut random = Random::announced("navigation", 51);
-    let mut tally = Tally::new();
-    for _ in 0..50_000 {
-        navigation::calls(&mut random, &mut tally);
-    }
-    println!("{tally}");
+    let tally = Tally::of_runs("navigation", 51, 50_000, navigation::calls);
     tally.expect("span", &[0, 13, 14, 15], 1_000);
     tally.expect("descendants", &[0, 13, 14, 15, 16], 1_000);
     tally.expect("ancestors", &[0, 13, 14, 15, 16], 1_000);
@@ -24,12 +18,7 @@ fn navigation_on_any_slices() {
 
 #[test]
 fn index_checks() {
-    let mut random = Random::announced("index checks", 52);
-    let mut tally = Tally::new();
-    for _ in 0..50_000 {
-        navigation::checks(&mut random, &mut tally);
-    }
-    println!("{tally}");
+    let tally = Tally::of_runs("index checks", 52, 50_000, navigation::checks);
     tally.expect("index_check yes", &[0], 5_000);
     tally.expect("index_check no", &[0], 5_000);
     tally.expect_reached(&LEVELS, 100);

@@ -2,36 +2,21 @@
 
 use differential::{shortest, Tally};
 use generate::shortest::{FACTS, REFUSALS};
-use generate::{Random, HISTORIES};
+use generate::HISTORIES;
 
 #[test]
 fn shortest_placements() {
-    let mut random = Random::announced("shortest placements", 81);
-    let mut tally = Tally::new();
-    for _ in 0..12_000 {
-        shortest::cases(&mut random, &mut tally);
-    }
-    println!("{tally}");
+    let tally = Tally::of_runs("shortest placements", 81, 12_000, shortest::cases);
     tally.expect("build_shortest", &[0, 9], 400);
     tally.expect_reached(&FACTS, 20);
     tally.expect_reached(&REFUSALS, 60);
-    tally.expect("span", &[0, 14], 400);
-    tally.expect("descendants", &[0, 14, 16], 400);
-    tally.expect("ancestors", &[0, 14, 16], 400);
-    tally.expect("siblings", &[0, 14, 16], 400);
-    tally.expect("subtree_sum", &[0, 14], 400);
-    tally.expect("path_sum", &[0, 14], 400);
+    tally.expect_navigation(400);
 }
 
 /// All places of a board in use, with exponentially many paths.
 #[test]
 fn placements_of_1024_rows() {
-    let mut random = Random::announced("placements of 1,024 rows", 82);
-    let mut tally = Tally::new();
-    for _ in 0..40 {
-        shortest::full(&mut random, &mut tally);
-    }
-    println!("{tally}");
+    let tally = Tally::of_runs("placements of 1,024 rows", 82, 40, shortest::full);
     tally.expect("build_shortest", &[0], 320);
     tally.expect_reached(&["1,024 rows", "more paths than the reference lists"], 200);
     tally.expect_reached(&["1,024 nodes", "level above 100"], 20);
@@ -39,25 +24,17 @@ fn placements_of_1024_rows() {
 
 #[test]
 fn placements_after_edits() {
-    let mut random = Random::announced("placements after edits", 83);
-    let mut tally = Tally::new();
-    for _ in 0..40 {
+    let tally = Tally::of_runs("placements after edits", 83, 40, |random, tally| {
         for kind in HISTORIES {
-            shortest::edited(&mut random, kind, &mut tally);
+            shortest::edited(random, kind, tally);
         }
-    }
-    println!("{tally}");
+    });
     tally.expect("build_shortest", &[0, 9], 10);
 }
 
 #[test]
 fn placements_of_unsound_boards() {
-    let mut random = Random::announced("placements of unsound boards", 84);
-    let mut tally = Tally::new();
-    for _ in 0..100 {
-        shortest::unsound(&mut random, &mut tally);
-    }
-    println!("{tally}");
+    let tally = Tally::of_runs("placements of unsound boards", 84, 100, shortest::unsound);
     tally.expect("build_shortest", &[1], 4_000);
 }
 
