@@ -20,7 +20,7 @@ pub enum Asked {
     ByDays(u32, Depth, Days),
 }
 
-// What is asked comes to: refusal 6, 20 or 7 or 0, and where it is 0 the placement.
+// What comes of what is asked: refusal 6, 20 or 7, or 0, and where it is 0 the placement.
 pub struct Judged {
     pub refusal: u32,
     pub placement: Placement,
