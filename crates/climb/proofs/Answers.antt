@@ -1,21 +1,16 @@
--- The answers of a climb, case by case; a list written in order from its front. Assumes nothing.
-use mathlib.Core.Path.{_≡_, refl, sym, ap, _∙_}
+-- The answers of a climb, case by case. Assumes nothing.
+use mathlib.Core.Path.{_≡_, refl, ap, _∙_}
 use mathlib.Core.Bool.{Bool, true, false, cond}
-use mathlib.Core.List.{List, [], _∷_, _++_}
-use Prim.Native.Nat.{ℕ, _+_, _-_, _≤_, _<_}
+use mathlib.Core.List.{List}
+use Prim.Native.Nat.{ℕ, _-_, _≤_, _<_}
 use native.Mathlib.Omega.{arith}
-use native.Mathlib.Numerals.{add-one}
-use lib.ListN.{length, getD, take, drop, set, length-drop}
-use lib.Seq.{take-suc, drop-cons, length-take-le, getD-drop}
+use lib.ListN.{length}
 use borrow.Author.Tests.{lt-ltb, le-ltb, ne-eqb}
 use Rattle.lists.specs.Choice.{firstOf}
 use Rattle.lists.specs.Lists.{front}
-use Rattle.lists.specs.StoreLaws.{front-push}
 use Rattle.navigate.specs.Navigate.{listOut}
 use Rattle.climb.specs.Climb.{climbAnswer}
 use Rattle.climb.specs.declared.Climbed.{Climbed}
-
--- ---- a climb
 
 abbrev found : Bool → List ℕ → List ℕ → Climbed
 found t r l = cond t (record { refusal = 15; len = 0; links = 0 }) (record { refusal = 0; len = length l; links = length r - 1 })
@@ -44,25 +39,3 @@ climb-fits t r l out out' x e h q w =
 pub climb-refused : (q y : ℕ) (r l out : List ℕ) → (q ≡ 0 → ⊥)
     → (_≡_ {A = Climbed} (record { refusal = q; len = 0; links = 0 }) (climbAnswer (firstOf q y) r l out)) × (out ≡ listOut (firstOf q y) l out)
 climb-refused q y r l out h = (simp (ne-eqb q 0 h), simp (ne-eqb q 0 h))
-
--- ---- a list w of which n elements are written
-
-module _ (w : List ℕ) (n v : ℕ) (rest : List ℕ) (e : drop n w ≡ v ∷ rest) where
-  pub left-room : n < length w
-  left-room = omega (arith, length-drop n w, ap length e)
-
-  pub drop-step : drop (n + 1) w ≡ rest
-  drop-step = rw (add-one) (ap (drop 1) (sym (drop-cons w n 0 left-room) ∙ e))
-
-  take-step : take n w ++ (v ∷ []) ≡ take (n + 1) w
-  take-step =
-      let m : n + 0 ≡ n = omega arith in
-      let lv : getD w n 0 ≡ v = sym (getD-drop n w 0 0 ∙ ap (λ (k : ℕ). getD w k 0) m) ∙ ap (λ (l : List ℕ). getD l 0 0) e in
-      rw (add-one) (sym (take-suc w n 0 left-room ∙ ap (λ (y : ℕ). take n w ++ (y ∷ [])) lv))
-
-  pub write-step : (out : List ℕ) → n < length out → set (front (take n w) out) n v ≡ front (take (n + 1) w) out
-  write-step out h =
-      let lt : length (take n w) ≡ n = length-take-le n w (omega (arith, left-room)) in
-      ap (λ (k : ℕ). set (front (take n w) out) k v) (sym lt)
-      ∙ front-push (take n w) out v 0 (omega arith)
-      ∙ ap (λ (l : List ℕ). front l out) take-step

@@ -7,16 +7,9 @@ use native.Mathlib.Omega.{arith}
 use lib.ListN.{length}
 use lib.Dec.{ltb, eqb}
 use borrow.Author.Tests.{ltb-true, ltb-false, lt-ltb, le-ltb, eq-eqb, ne-eqb}
+use Rattle.lists.specs.ChoiceLaws.{cond-agree, cond-short}
 use Rattle.image.specs.Layout.{parentAt}
 use Rattle.climb.specs.Climb.{climbFrom, stuckFrom, chain, badClimb}
-
-cond-same {ℓ} : {A : Type ℓ} (t : Bool) (a b d : A) → (t ≡ true → a ≡ b) → cond t a d ≡ cond t b d
-cond-same true a b d h = h refl
-cond-same false a b d h = refl
-
-cond-le : (t : Bool) (a b : List ℕ) (n : ℕ) → length a ≤ n → length b ≤ n → length (cond t a b) ≤ n
-cond-le true a b n h k = h
-cond-le false a b n h k = k
 
 module _ (s : List ℕ) where
   climb-fuel : (f g k : ℕ) → k ≤ f → k ≤ g → climbFrom s f k ≡ climbFrom s g k
@@ -26,7 +19,7 @@ module _ (s : List ℕ) where
   climb-fuel (suc f) zero k h h' = simp (eq-eqb k 0 (omega arith))
   climb-fuel (suc f) (suc g) k h h' =
       ap (λ (l : List ℕ). cond (eqb k 0) [] (k ∷ l))
-      (cond-same (ltb (parentAt s k) k) _ _ [] (λ e. climb-fuel f g (parentAt s k) (omega (arith, ltb-true (parentAt s k) k e)) (omega (arith, ltb-true (parentAt s k) k e))))
+      (cond-agree (ltb (parentAt s k) k) _ [] _ [] (λ e. climb-fuel f g (parentAt s k) (omega (arith, ltb-true (parentAt s k) k e)) (omega (arith, ltb-true (parentAt s k) k e))) (λ e. refl))
 
   stuck-fuel : (f g k : ℕ) → k ≤ f → k ≤ g → stuckFrom s f k ≡ stuckFrom s g k
   unfolding stuckFrom
@@ -35,7 +28,7 @@ module _ (s : List ℕ) where
   stuck-fuel (suc f) zero k h h' = simp (eq-eqb k 0 (omega arith))
   stuck-fuel (suc f) (suc g) k h h' =
       ap (λ (l : Bool). cond (eqb k 0) false l)
-      (cond-same (ltb (parentAt s k) k) _ _ true (λ e. stuck-fuel f g (parentAt s k) (omega (arith, ltb-true (parentAt s k) k e)) (omega (arith, ltb-true (parentAt s k) k e))))
+      (cond-agree (ltb (parentAt s k) k) _ true _ true (λ e. stuck-fuel f g (parentAt s k) (omega (arith, ltb-true (parentAt s k) k e)) (omega (arith, ltb-true (parentAt s k) k e))) (λ e. refl))
 
   pub chain-step : (k : ℕ) → 0 < k → parentAt s k < k → chain s k ≡ k ∷ chain s (parentAt s k)
   unfolding climbFrom
@@ -79,8 +72,8 @@ module _ (s : List ℕ) where
   unfolding climbFrom
   climb-le zero k = omega arith
   climb-le (suc f) k =
-      cond-le (eqb k 0) [] _ (suc f) (omega arith)
-      (omega (arith, cond-le (ltb (parentAt s k) k) (climbFrom s f (parentAt s k)) [] f (climb-le f (parentAt s k)) (omega arith)))
+      cond-short (eqb k 0) [] _ (suc f) (omega arith)
+      (omega (arith, cond-short (ltb (parentAt s k) k) (climbFrom s f (parentAt s k)) [] f (climb-le f (parentAt s k)) (omega arith)))
 
   pub chain-le : (k : ℕ) → length (chain s k) ≤ k
   chain-le k = climb-le k k

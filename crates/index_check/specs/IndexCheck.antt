@@ -6,7 +6,7 @@ use lib.ListN.{getD, take, drop}
 use lib.Dec.{ltb, leb, eqb}
 use Rattle.lists.specs.Lists.{allTo, largestTo}
 use Rattle.image.specs.Layout.{nodeCount, sizeAt, parentAt, rootAt, wordAt, levelAt, checked, badContents}
-use Rattle.spans.specs.Spans.{endOf}
+use Rattle.spans.specs.Spans.{endOf, parentEnd}
 
 -- the interval of rank r, which is the ranks r to r + size − 1, contains rank k
 abbrev pub contains : List ℕ → ℕ → ℕ → Bool
@@ -30,7 +30,7 @@ sizeRight s k = leb 1 (sizeAt s k)
 
 -- "its interval ends inside its parent's (or at n or before)"
 unfoldable pub endRight : List ℕ → ℕ → Bool
-endRight s k = leb (endOf s k) (cond (eqb (parentAt s k) 0) (nodeCount s) (endOf s (parentAt s k)))
+endRight s k = leb (endOf s k) (parentEnd s (parentAt s k))
 
 -- "the parent rank is the largest lower rank whose interval contains it, else 0"
 unfoldable pub parentRight : List ℕ → ℕ → Bool

@@ -1,4 +1,4 @@
--- Laws of a test as a word, of tests that are false in all their parts, of the first refusal that applies, and of the numbers of a range that pass a test. Assumes nothing.
+-- Laws of a test as a word, of what a test chooses, of tests that are false in all their parts, of the first refusal that applies, and of the numbers of a range that pass a test. Assumes nothing.
 use mathlib.Core.Path.{_≡_, refl, sym, ap, _∙_}
 use mathlib.Core.Bool.{Bool, true, false, cond, not, _||_, _&&_}
 use mathlib.Core.List.{List, [], _∷_, _++_, append-nil}
@@ -31,6 +31,16 @@ or-no false b e = (refl, e)
 pub and-yes : (a b : Bool) → a && b ≡ true → (a ≡ true) × (b ≡ true)
 and-yes true b e = (refl, e)
 and-yes false b e = let z : _≡_ {A = ℕ} 0 1 = cc in absurd (omega arith)
+
+-- choices that agree wherever they are made
+pub cond-agree {ℓ} : {A : Type ℓ} (t : Bool) (a b c d : A) → (t ≡ true → a ≡ c) → (t ≡ false → b ≡ d) → cond t a b ≡ cond t c d
+cond-agree true a b c d h k = h refl
+cond-agree false a b c d h k = k refl
+
+-- a list that is chosen is no longer than both may be
+pub cond-short : {A : Type 0} (t : Bool) (a b : List A) (n : ℕ) → length a ≤ n → length b ≤ n → length (cond t a b) ≤ n
+cond-short true a b n h k = h
+cond-short false a b n h k = k
 
 -- the refusal k where the test holds, else y
 pub cond-none : (b : Bool) (k y : ℕ) → 0 < k → cond b k y ≡ 0 → (b ≡ false) × (y ≡ 0)

@@ -14,6 +14,10 @@ badRank s rank = eqb rank 0 || ltb (nodeCount s) rank
 abbrev pub endOf : List ℕ → ℕ → ℕ
 endOf s rank = rank + sizeAt s rank - 1
 
+-- the last rank below a parent: the parent's end, or n for roots, whose parent rank is 0
+abbrev pub parentEnd : List ℕ → ℕ → ℕ
+parentEnd s parent = cond (eqb parent 0) (nodeCount s) (endOf s parent)
+
 -- refusal 15 of a span: the node has size 0 or an end above n
 unfoldable pub badSpan : List ℕ → ℕ → Bool
 badSpan s rank = eqb (sizeAt s rank) 0 || ltb (nodeCount s) (endOf s rank)

@@ -10,13 +10,12 @@ use lib.Seq.{length-take-le, take-length}
 use denote.Ref.{now}
 use Rattle.lists.specs.Lists.{filter, front}
 use Rattle.lists.specs.ChoiceLaws.{filter-yes, filter-no}
-use Rattle.lists.specs.StoreLaws.{length-front}
+use Rattle.lists.specs.StoreLaws.{length-front, left-room, drop-step, write-step}
 use Rattle.image.specs.Layout.{parentAt}
 use Rattle.image.specs.declared.Body.{Body}
 use Rattle.climb.specs.Climb.{chain, badClimb}
 use Rattle.climb.specs.ClimbLaws.{chain-step, stuck-step, goes-down, chain-done}
 use Rattle.rank_filter.specs.KeepLayer.{keepsAt}
-use Rattle.climb.proofs.Answers.{left-room, drop-step, write-step}
 use Rattle.climb.proofs.write_climb.Statement.{statement}
 use Rattle.climb.proofs.write_climb.Tie as tie
 use Rattle.climb.proofs.write_climb.Reads as reads
