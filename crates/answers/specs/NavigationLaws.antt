@@ -22,7 +22,7 @@ use Rattle.forest.specs.ForestLaws.{Forest, Closed}
 use Rattle.forest.specs.BeginningLaws.{begins-length}
 use Rattle.answers.specs.Answers.{First, applies, otherwise, Navigation, DistancesAtMostZero, LinksByLevel, LinksByBeginnings}
 use Rattle.answers.specs.DescribedLaws.{Described, level-here}
-use Rattle.answers.specs.AnswerLaws.{has-rank, descendants-here, siblings-here, subtree-sum-here}
+use Rattle.answers.specs.AnswerLaws.{has-rank, descendants-here, siblings-here, siblings-by-hops-here, subtree-sum-here}
 use Rattle.answers.specs.RankLaws.{falling-out}
 use Rattle.answers.specs.ClimbLaws.{shorter-count, closed-links, chain-here, ancestors-here}
 use Rattle.answers.specs.PathSumLaws.{path-sum-here}
@@ -47,6 +47,7 @@ module _ {W : List (List ℕ)} (g : Forest W) {bs : List Body} (b : Described W 
     descendants = descendants-here g b short small h;
     ancestors = ancestors-here g b short small h;
     siblings = siblings-here g b short small h;
+    siblings-by-hops = siblings-by-hops-here g b short small h;
     subtree-sums = λ f rank. subtree-sum-here g b short small h rank minutes (fit f) k;
     path-sums = λ f. path-sum-here g b short small h minutes (fit f) k;
   }

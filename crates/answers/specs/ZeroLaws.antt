@@ -11,6 +11,7 @@ use Rattle.image.specs.Layout.{badContents}
 use Rattle.spans.specs.Spans.{badRank, badSpan, endOf, rankRefusal, spanRefusal}
 use Rattle.navigate.specs.Navigate.{descendantList, siblingList, listAnswer, listOut}
 use Rattle.climb.specs.Climb.{chain, badClimb, climbRefusal, ancestorList, climbAnswer}
+use Rattle.hops.specs.Hops.{siblingHops, badHops, hopsRefusal, hoppedAnswer}
 use Rattle.sums.specs.Sums.{totalAt, fewTotals, totalsRefusal, beyond, sumAnswer, spanSum, badPath, pathSum}
 use Rattle.answers.specs.Answers.{RefusedNavigation}
 
@@ -33,6 +34,9 @@ module _ (n : ℕ) where
   climb-13 : (rank : ℕ) → climbRefusal zeros rank ≡ 13
   climb-13 rank = ap (λ q. firstOf q (cond (badClimb zeros rank) 15 0)) (rank-13 rank)
 
+  hops-13 : (rank : ℕ) → hopsRefusal zeros rank ≡ 13
+  hops-13 rank = ap (λ q. firstOf q (cond (badHops zeros rank) 15 0)) (rank-13 rank)
+
   totals-13 : (t : List ℤ) → totalsRefusal zeros t ≡ 13
   totals-13 t = ap (λ b. firstOf (cond b 13 0) (cond (fewTotals zeros t) 13 0)) (zeros-bad n)
 
@@ -41,6 +45,7 @@ module _ (n : ℕ) where
     descendants = λ rank lower upper out. let l : List ℕ = descendantList zeros rank lower upper in (ap (λ q. listAnswer q l out) (span-13 rank), ap (λ q. listOut q l out) (span-13 rank));
     ancestors = λ rank lower upper out. let l : List ℕ = ancestorList zeros rank lower upper in (ap (λ q. climbAnswer q (chain zeros rank) l out) (climb-13 rank), ap (λ q. listOut q l out) (climb-13 rank));
     siblings = λ rank out. let l : List ℕ = siblingList zeros rank in (ap (λ q. listAnswer q l out) (rank-13 rank), ap (λ q. listOut q l out) (rank-13 rank));
+    siblings-by-hops = λ rank out. let l : List ℕ = siblingHops zeros rank in (ap (λ q. hoppedAnswer q l out) (hops-13 rank), ap (λ q. listOut q l out) (hops-13 rank));
     subtree-sums = λ rank. let far : ℕ = cond (beyond (totalAt t (endOf zeros rank)) || beyond (totalAt t (rank - 1))) 15 0 in
         ap (λ q. sumAnswer (firstOf (firstOf q (spanRefusal zeros rank)) far) (spanSum zeros t rank)) (totals-13 t);
     path-sums = λ rank. let far : ℕ = cond (badPath zeros t rank) 15 0 in

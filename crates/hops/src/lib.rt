@@ -36,8 +36,8 @@ fn reach_of(index: &[u32], parent: u32) -> Reach
             last: n,
         };
     }
-    let refusal = spans::span_refusal(index, parent);
-    if refusal != 0 {
+    let spanned = spans::span_refusal(index, parent);
+    if spanned != 0 {
         return Reach {
             refusal: 15,
             last: 0,
@@ -86,10 +86,10 @@ fn write_hops(index: &[u32], first: usize, last: usize, out: &mut [u32])
     let mut k = first;
     let mut n: usize = 0;
     while k <= last {
-        let size = image::size_at(index, k) as usize;
+        let hop = image::size_at(index, k) as usize;
         out[n] = k as u32;
         n += 1;
-        k += size;
+        k += hop;
     }
 }
 

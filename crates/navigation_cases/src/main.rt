@@ -114,6 +114,24 @@ fn siblings(index: &[u32], rank: u32, from: usize) {
     words(all);
 }
 
+fn siblings_by_hops(index: &[u32], rank: u32, from: usize) {
+    let mut space = [7u32; 9];
+    let all: &mut [u32] = &mut space;
+    if all.len() < from {
+        return;
+    }
+    let found = hops::siblings_by_hops(index, rank, &mut all[from..]);
+    say(b"siblings by hops of ");
+    word(rank);
+    refused(found.refusal);
+    say(b" length ");
+    number(found.len as u64);
+    say(b" hops ");
+    number(found.hops as u64);
+    say(b" slice");
+    words(all);
+}
+
 fn span(index: &[u32], rank: u32) {
     say(b"span of ");
     word(rank);
@@ -150,6 +168,7 @@ fn each_call(title: &[u8], index: &[u32], totals: &[i64], rank: u32) {
     descendants(index, rank, 0, 9, 0);
     ancestors(index, rank, -9, 0, 0);
     siblings(index, rank, 0);
+    siblings_by_hops(index, rank, 0);
     subtree_sum(index, totals, rank);
     path_sum(index, totals, rank);
 }
@@ -203,6 +222,7 @@ fn short_lists() {
     descendants(&index, 1, 0, 9, 2);
     ancestors(&index, 5, -4, 0, 5);
     siblings(&index, 1, 8);
+    siblings_by_hops(&index, 1, 8);
 }
 
 fn short_slices() {
@@ -242,6 +262,26 @@ fn damaged_bodies() {
     with_word(b"level 65535, bits 16 to 29 set", 19, 1073741823, 2);
 }
 
+// Both calls for siblings of a rank on the index with one word changed; the places before `from` are not lent.
+fn both_siblings(title: &[u8], at: usize, word: u32, rank: u32, from: usize) {
+    let index = damaged(at, word);
+    say(title);
+    say(b"\n");
+    siblings(&index, rank, from);
+    siblings_by_hops(&index, rank, from);
+}
+
+fn damaged_hops() {
+    both_siblings(b"the parent's size is 0", 10, 0, 2, 0);
+    both_siblings(b"the parent's end is n", 10, 9, 2, 0);
+    both_siblings(b"the parent's end is above n", 10, 10, 2, 0);
+    both_siblings(b"the parent rank is n, a leaf", 17, 9, 2, 0);
+    both_siblings(b"the parent rank is above n", 17, 10, 2, 0);
+    both_siblings(b"a hop into a tree", 16, 3, 2, 0);
+    both_siblings(b"a size of 0, met with no place left", 40, 0, 2, 8);
+    both_siblings(b"a size of 0, not met", 40, 0, 3, 8);
+}
+
 fn with_total(title: &[u8], at: usize, total: i64) {
     let index = cases::INDEX;
     let totals = changed(at, total);
@@ -277,5 +317,6 @@ fn main() {
     short_slices();
     damaged_contents();
     damaged_bodies();
+    damaged_hops();
     damaged_totals();
 }

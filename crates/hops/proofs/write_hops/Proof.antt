@@ -65,8 +65,8 @@ loop-holds c = (c .before .before .pre .0 .1, refl, omega arith, refl)
 size-at-requires : tie.Need-size-at-requires Inv-loop μ-loop
 size-at-requires c κs = omega arith
 
-cast-size : tie.Need-cast-size Inv-loop μ-loop
-cast-size c = search needs
+cast-hop : tie.Need-cast-hop Inv-loop μ-loop
+cast-hop c = search needs
 
 cast-out : tie.Need-cast-out Inv-loop μ-loop
 cast-out c = omega arith
@@ -120,7 +120,7 @@ write-hops-spec =
     μ-loop
     loop-holds
     size-at-requires
-    cast-size
+    cast-hop
     cast-out
     mul-out
     slice-write-out
