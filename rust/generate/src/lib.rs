@@ -32,7 +32,7 @@ pub use builds::{
 };
 pub use dated::{dated_case, small_dated_boards, DatedCase};
 pub use histories::{history, history_on, History, HISTORIES};
-pub use indexes::{index, navigation_case, totals, NavigationCase};
+pub use indexes::{hop_case, index, navigation_case, totals, NavigationCase};
 pub use levelled::{levelled_case, LevelledCase};
 pub use listings::listing;
 pub use random::Random;

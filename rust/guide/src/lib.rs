@@ -86,6 +86,9 @@ pub trait Engine {
     /// Ranks with the same parent rank.
     fn siblings(&self, index: &[u32], rank: u32) -> Result<Vec<u32>, u32>;
 
+    /// The same ranks by hops of tree size, and the hops made.
+    fn siblings_by_hops(&self, index: &[u32], rank: u32) -> Result<(Vec<u32>, u32), u32>;
+
     /// The words of the node's span.
     fn span(&self, index: &[u32], rank: u32) -> Result<Vec<u32>, u32>;
 

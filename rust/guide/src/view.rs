@@ -118,9 +118,13 @@ impl<'a> View<'a> {
         ranks.into_iter().map(|rank| Pick { rank, start }).collect()
     }
 
-    /// Siblings of a start node.
+    /// Siblings of a start node, the same by hops: one for each.
     pub fn siblings(&self, start: u32) -> Vec<Pick> {
         let ranks = self.engine.siblings(&self.image.index, start).expect("siblings accepted");
+        let found = self.engine.siblings_by_hops(&self.image.index, start);
+        let (hopped, hops) = found.expect("siblings by hops accepted");
+        assert_eq!(hopped, ranks, "siblings of {start} by hops");
+        assert_eq!(hops as usize, ranks.len(), "hops of {start}");
         ranks.into_iter().map(|rank| Pick { rank, start }).collect()
     }
 

@@ -114,6 +114,14 @@ impl Engine for Reference {
         Ok(list)
     }
 
+    fn siblings_by_hops(&self, index: &[u32], rank: u32) -> Result<(Vec<u32>, u32), u32> {
+        let mut list = vec![0; NODES];
+        let hopped = siblings_by_hops(index, rank, &mut list);
+        of(hopped.refusal)?;
+        list.truncate(hopped.length as usize);
+        Ok((list, hopped.hops))
+    }
+
     fn span(&self, index: &[u32], rank: u32) -> Result<Vec<u32>, u32> {
         let spanned = span(index, rank);
         of(spanned.refusal)?;

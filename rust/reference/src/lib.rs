@@ -8,7 +8,7 @@
 //! * [`shortest`]: the paths that shortest placement keeps, and the build from them.
 //! * [`dated`]: the regular paths with days left in a window, and the build from them.
 //! * [`levelled`]: beginnings of the lines of a levelled list, and the build from them.
-//! * [`navigation`]: span, descendants, ancestors, siblings and sums on any slices.
+//! * [`navigation`]: span, descendants, ancestors, siblings, also by hops, and sums on any slices.
 //! * [`check`]: the index check.
 //! * [`listing`]: the listing program as a function from input to output.
 //!
@@ -38,7 +38,8 @@ pub use levelled::{build_levelled, Levelled, LevelledNode};
 pub use listing::numerals;
 pub use machine::{Call, Machine};
 pub use navigation::{
-    ancestors, descendants, path_sum, siblings, span, subtree_sum, Climbed, Listed, Spanned, Summed,
+    ancestors, descendants, path_sum, siblings, siblings_by_hops, span, subtree_sum, Climbed,
+    Hopped, Listed, Spanned, Summed,
 };
 pub use shortest::{build_shortest, build_shortest_board};
 

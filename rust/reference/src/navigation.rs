@@ -27,6 +27,14 @@ pub struct Climbed {
     pub links: u32,
 }
 
+/// A list of siblings, and the hops made: one for each listed rank.
+#[derive(Clone, Copy, Debug, PartialEq, Eq)]
+pub struct Hopped {
+    pub refusal: u32,
+    pub length: u32,
+    pub hops: u32,
+}
+
 /// A sum.
 #[derive(Clone, Copy, Debug, PartialEq, Eq)]
 pub struct Summed {
@@ -181,6 +189,36 @@ pub fn siblings(index: &[u32], rank: u32, list: &mut [u32]) -> Listed {
         Ok(same)
     };
     listed(found().and_then(|found| put(&found, list)))
+}
+
+/// The first child of the parent (rank 1 for roots), then hop by hop of tree size up to the parent's
+/// end, or to n. It is no climb: any parent rank up to n is followed as it stands.
+pub fn siblings_by_hops(index: &[u32], rank: u32, list: &mut [u32]) -> Hopped {
+    let mut found = || -> Result<(u32, u32), u32> {
+        let n = enter(index, rank)?;
+        let parent = Body::read(index, rank as usize).parent;
+        if parent as usize > n {
+            return Err(15);
+        }
+        let last = if parent == 0 { n } else { end(index, n, parent)? };
+        let mut met = Vec::new();
+        let mut hops = 0;
+        let mut at = parent as u64 + 1;
+        while at <= last as u64 {
+            let size = Body::read(index, at as usize).size;
+            if size == 0 {
+                return Err(15);
+            }
+            met.push(at as u32);
+            at += size as u64;
+            hops += 1;
+        }
+        Ok((put(&met, list)?, hops))
+    };
+    match found() {
+        Ok((length, hops)) => Hopped { refusal: 0, length, hops },
+        Err(refusal) => Hopped { refusal, length: 0, hops: 0 },
+    }
 }
 
 /// Total at r + size − 1 less total at r − 1.
