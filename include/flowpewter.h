@@ -82,8 +82,10 @@ enum {
     FLOWPEWTER_REFUSED_NO_SUCH_RANK = 14,      /* the rank is 0 or above the number of nodes */
     FLOWPEWTER_REFUSED_DAMAGED_INDEX = 15,     /* a span, descendants or subtree sum is of a node with size 0 or an end
                                                   above the number of nodes; a way up meets a parent rank that isn't
-                                                  below its own; a total used is beyond 2^47 either side; or a node's
-                                                  own minutes used in a path sum leave int32_t */
+                                                  below its own; siblings by hops meet a size of 0, or their parent
+                                                  has one, or its rank or end is above the number of nodes; a total
+                                                  used is beyond 2^47 either side; or a node's own minutes used in a
+                                                  path sum leave int32_t */
     FLOWPEWTER_REFUSED_LIST_TOO_LONG = 16,     /* the list found is longer than its slice */
     FLOWPEWTER_REFUSED_NOTHING_UNDONE = 17,    /* redo finds no undone step */
     FLOWPEWTER_REFUSED_NOT_WHOLE_LINES = 18,   /* a levelled list has a width of 0 or above 8, or the number of its
@@ -382,6 +384,12 @@ typedef struct flowpewter_climbed {
                      1, on one of a levelled list the number of shorter beginnings that are nodes */
 } flowpewter_climbed;
 
+typedef struct flowpewter_hopped {
+    uint32_t refusal;
+    size_t len;
+    size_t hops; /* one for each rank listed: where flowpewter_index_check accepts the index, the number of siblings */
+} flowpewter_hopped;
+
 typedef struct flowpewter_summed {
     uint32_t refusal;
     int64_t sum;
@@ -399,9 +407,21 @@ flowpewter_listed flowpewter_descendants(const uint32_t *index, size_t index_len
 flowpewter_climbed flowpewter_ancestors(const uint32_t *index, size_t index_len, uint32_t rank, int32_t lo, int32_t hi,
                                         uint32_t *out, size_t out_len);
 
-/* All ranks with the same parent rank, the node included, rising; roots are siblings. 13, 14, 16. */
+/* All ranks with the same parent rank, the node included, rising; roots are siblings. It reads the whole index, and is
+ * the call for one that nobody checked. 13, 14, 16. */
 flowpewter_listed flowpewter_siblings(const uint32_t *index, size_t index_len, uint32_t rank, uint32_t *out,
                                       size_t out_len);
+
+/* Siblings by hops: the first is the rank after the parent's, rank 1 for roots, and each hop goes by the size of a tree
+ * to the rank after it, up to the parent's end, or to the last node. It reads the node, its parent and the siblings
+ * alone, and is the call for a panel that redraws siblings at each click; where a large part of all nodes are siblings,
+ * flowpewter_siblings takes less time. 13 to 16.
+ *
+ * On an index that flowpewter_index_check accepts, as it does every built one, both calls list the same. On any other
+ * the lists may differ, since sizes alone say which ranks are met: ranks with another parent rank may be listed, and
+ * the node itself may be missing. */
+flowpewter_hopped flowpewter_siblings_by_hops(const uint32_t *index, size_t index_len, uint32_t rank, uint32_t *out,
+                                              size_t out_len);
 
 /* The minutes of the node and all nodes below it. 13, 14, 15. */
 flowpewter_summed flowpewter_subtree_sum(const uint32_t *index, size_t index_len, const int64_t *totals,

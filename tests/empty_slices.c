@@ -2,6 +2,7 @@
  * Prints what is wrong, and fails then. */
 #include "flowpewter.h"
 #include <stdio.h>
+#include <string.h>
 
 enum { WORDS = FLOWPEWTER_INDEX_LEN(1), TOTALS = FLOWPEWTER_TOTALS_LEN(1), DAYS = FLOWPEWTER_DAYS_LEN(1) };
 
@@ -153,6 +154,7 @@ static void navigation_of_nothing(void) {
     refused("descendants", flowpewter_descendants(NULL, 0, 1, 0, 9, NULL, 0).refusal, no_index);
     refused("ancestors", flowpewter_ancestors(NULL, 0, 1, 0, 9, NULL, 0).refusal, no_index);
     refused("siblings", flowpewter_siblings(NULL, 0, 1, NULL, 0).refusal, no_index);
+    refused("siblings by hops", flowpewter_siblings_by_hops(NULL, 0, 1, NULL, 0).refusal, no_index);
     refused("subtree sum", flowpewter_subtree_sum(NULL, 0, NULL, 0, 1).refusal, no_index);
     refused("path sum", flowpewter_path_sum(NULL, 0, NULL, 0, 1).refusal, no_index);
     refused("subtree sum of no totals", flowpewter_subtree_sum(words, WORDS, NULL, 0, 1).refusal, no_index);
@@ -167,6 +169,11 @@ static void lists_to_nowhere(void) {
     refused("an ancestor", flowpewter_ancestors(words, WORDS, 1, 0, 0, NULL, 0).refusal, too_long);
     refused("no ancestor", flowpewter_ancestors(words, WORDS, 1, 1, 0, NULL, 0).refusal, 0);
     refused("a sibling", flowpewter_siblings(words, WORDS, 1, NULL, 0).refusal, too_long);
+    refused("a sibling by hops", flowpewter_siblings_by_hops(words, WORDS, 1, NULL, 0).refusal, too_long);
+    uint32_t own_parent[WORDS];
+    memcpy(own_parent, words, sizeof words);
+    own_parent[FLOWPEWTER_BODY_AT(1) + FLOWPEWTER_BODY_PARENT] = 1;
+    refused("no sibling by hops", flowpewter_siblings_by_hops(own_parent, WORDS, 1, NULL, 0).refusal, 0);
 }
 
 static void replays(void) {

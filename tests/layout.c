@@ -49,6 +49,10 @@ static void structs(void) {
     FIELD(climbed, refusal);
     FIELD(climbed, len);
     FIELD(climbed, links);
+    STRUCT(hopped);
+    FIELD(hopped, refusal);
+    FIELD(hopped, len);
+    FIELD(hopped, hops);
     STRUCT(summed);
     FIELD(summed, refusal);
     FIELD(summed, sum);

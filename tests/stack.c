@@ -149,6 +149,12 @@ static void siblings(void) {
     answer = (int64_t)found.len;
 }
 
+static void siblings_by_hops(void) {
+    flowpewter_hopped found = flowpewter_siblings_by_hops(words, WORDS, NODES, list, NODES);
+    refusal = found.refusal;
+    answer = (int64_t)found.hops;
+}
+
 static void subtree_sum(void) {
     flowpewter_summed found = flowpewter_subtree_sum(words, WORDS, totals, TOTALS, 1);
     refusal = found.refusal;
@@ -187,6 +193,7 @@ static const struct job {
     {"descendants", descendants, 0, NODES},
     {"ancestors", ancestors, 0, NODES - 1},
     {"siblings", siblings, 0, 1},
+    {"siblings_by_hops", siblings_by_hops, 0, 1},
     {"subtree_sum", subtree_sum, 0, NODES},
     {"path_sum", path_sum, 0, NODES},
     {"index_check", index_check, 0, 1},

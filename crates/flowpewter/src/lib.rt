@@ -4,6 +4,7 @@ ghost use lib.ListN.{length};
 ghost use Rattle.board.specs.Edits.{emptyOf, soundOf, addOf, withdrawOf, remarkOf, undoOf, redoOf};
 ghost use Rattle.navigate.specs.Navigate.{descendantsAnswer, descendantsOut, siblingsAnswer, siblingsOut};
 ghost use Rattle.climb.specs.Climb.{ancestorsAnswer, ancestorsOut};
+ghost use Rattle.hops.specs.Hops.{siblingsByHopsAnswer, siblingsByHopsOut};
 ghost use Rattle.sums.specs.Sums.{subtreeAnswer, pathAnswer};
 ghost use Rattle.index_check.specs.IndexCheck.{accepts};
 ghost use Rattle.request.specs.Build.{startRule, builtOf, indexAfter, totalsAfter, byDefault};
@@ -18,6 +19,7 @@ use board::Edited;
 use built::Built;
 use climb::Climbed;
 use history::Replayed;
+use hops::Hopped;
 use navigate::Listed;
 use options::Depth;
 use request::Start;
@@ -257,6 +259,14 @@ pub extern "C" fn flowpewter_siblings(index: &[u32], rank: u32, out: &mut [u32])
     ensures { λ _. ⌜ now (out .exit) ≡ siblingsOut (now (index .entry)) rank (now (out .entry)) ⌝ }
 {
     navigate::siblings(index, rank, out)
+}
+
+#[no_mangle]
+pub extern "C" fn flowpewter_siblings_by_hops(index: &[u32], rank: u32, out: &mut [u32]) -> Hopped
+    ensures { λ r. ⌜ r ≡ siblingsByHopsAnswer (now (index .entry)) rank (now (out .entry)) ⌝ }
+    ensures { λ _. ⌜ now (out .exit) ≡ siblingsByHopsOut (now (index .entry)) rank (now (out .entry)) ⌝ }
+{
+    hops::siblings_by_hops(index, rank, out)
 }
 
 #[no_mangle]

@@ -126,6 +126,12 @@ impl Engine for Library {
         flowpewter::siblings(index, rank, &mut list).map(<[u32]>::to_vec).map_err(number)
     }
 
+    fn siblings_by_hops(&self, index: &[u32], rank: u32) -> Result<(Vec<u32>, u32), u32> {
+        let mut list = vec![0; NODES];
+        let found = flowpewter::siblings_by_hops(index, rank, &mut list);
+        found.map(|found| (found.ranks.to_vec(), found.hops as u32)).map_err(number)
+    }
+
     fn span(&self, index: &[u32], rank: u32) -> Result<Vec<u32>, u32> {
         flowpewter::span(index, rank).map(<[u32]>::to_vec).map_err(number)
     }

@@ -165,12 +165,63 @@ pub fn ancestors<'a>(
     Ok(Ancestors { ranks: &list[..climbed.len], links: climbed.links })
 }
 
-/// All ranks with the same parent rank, the node included, rising; roots are siblings.
+/// All ranks with the same parent rank, the node included, rising; roots are siblings. It reads the whole index, and is the
+/// call for one that nobody checked.
 /// They are put to the front of `list` and returned; the rest of it stays. Refused with 13, 14 or 16, and then nothing is written.
 pub fn siblings<'a>(index: &[u32], rank: u32, list: &'a mut [u32]) -> Result<&'a [u32], Refusal> {
     let listed = sys::siblings(index, rank, list);
     Refusal::check(listed.refusal)?;
     Ok(&list[..listed.len])
+}
+
+/// The ranks that [`siblings_by_hops`] lists, and the hops that it made.
+#[derive(Clone, Copy, Debug, PartialEq, Eq)]
+pub struct SiblingsByHops<'a> {
+    pub ranks: &'a [u32],
+    /// One for each rank listed: on an index that [`index_check`] accepts the number of siblings.
+    pub hops: usize,
+}
+
+/// Siblings by hops: the first is the rank after the parent's, rank 1 for roots, and each hop goes by the size of a tree to
+/// the rank after it, up to the parent's end, or to the last node. It reads the node, its parent and the siblings alone, and
+/// is the call for a panel that redraws siblings at each click; where a large part of all nodes are siblings, [`siblings`]
+/// takes less time.
+/// They are put to the front of `list` and returned; the rest of it stays. Refused with 13 to 16, and then nothing is written.
+///
+/// On an index that [`index_check`] accepts, as it does every built one, the ranks are those of [`siblings`]. On any other
+/// they may differ, since sizes alone say which ranks are met: ranks with another parent rank may be listed, and the node
+/// itself may be missing.
+///
+/// ```
+/// use flowpewter::{index_check, siblings, siblings_by_hops, Refusal};
+///
+/// // Numeral 10 with 20 and 30 below it, and 40 below 20.
+/// let mut index = [
+///     4, 8, 6, 134, 0, 0, 0, 0,
+///     10, 1, 4, 0, 1, 1,
+///     20, 2, 2, 1, 1, 2,
+///     40, 4, 1, 2, 1, 3,
+///     30, 3, 1, 1, 1, 2,
+/// ];
+/// assert!(index_check(&index));
+/// let mut list = [0; 4];
+/// let found = siblings_by_hops(&index, 4, &mut list)?;
+/// assert_eq!((found.ranks, found.hops), ([2, 4].as_slice(), 2));
+///
+/// // Without a size there is no hop.
+/// index[16] = 0;
+/// assert_eq!(siblings_by_hops(&index, 4, &mut list), Err(Refusal::DamagedIndex));
+/// assert_eq!(siblings(&index, 4, &mut list)?, [2, 4]);
+/// # Ok::<(), flowpewter::Refusal>(())
+/// ```
+pub fn siblings_by_hops<'a>(
+    index: &[u32],
+    rank: u32,
+    list: &'a mut [u32],
+) -> Result<SiblingsByHops<'a>, Refusal> {
+    let hopped = sys::siblings_by_hops(index, rank, list);
+    Refusal::check(hopped.refusal)?;
+    Ok(SiblingsByHops { ranks: &list[..hopped.len], hops: hopped.hops })
 }
 
 /// The minutes of a node and all nodes below it. Refused with 13, 14 or 15.

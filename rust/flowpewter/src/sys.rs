@@ -60,6 +60,15 @@ pub struct Climbed {
     pub links: usize,
 }
 
+/// What a call that lists siblings by hops answers.
+#[repr(C)]
+#[derive(Clone, Copy, Debug, PartialEq, Eq)]
+pub struct Hopped {
+    pub refusal: u32,
+    pub len: usize,
+    pub hops: usize,
+}
+
 /// What a call that sums minutes answers.
 #[repr(C)]
 #[derive(Clone, Copy, Debug, PartialEq, Eq)]
@@ -164,6 +173,13 @@ extern "C" {
         out: *mut u32,
         out_len: usize,
     ) -> Listed;
+    fn flowpewter_siblings_by_hops(
+        index: *const u32,
+        index_len: usize,
+        rank: u32,
+        out: *mut u32,
+        out_len: usize,
+    ) -> Hopped;
     fn flowpewter_subtree_sum(
         index: *const u32,
         index_len: usize,
@@ -348,6 +364,12 @@ pub fn ancestors(index: &[u32], rank: u32, lo: i32, hi: i32, out: &mut [u32]) ->
 
 pub fn siblings(index: &[u32], rank: u32, out: &mut [u32]) -> Listed {
     unsafe { flowpewter_siblings(index.as_ptr(), index.len(), rank, out.as_mut_ptr(), out.len()) }
+}
+
+pub fn siblings_by_hops(index: &[u32], rank: u32, out: &mut [u32]) -> Hopped {
+    unsafe {
+        flowpewter_siblings_by_hops(index.as_ptr(), index.len(), rank, out.as_mut_ptr(), out.len())
+    }
 }
 
 pub fn subtree_sum(index: &[u32], totals: &[i64], rank: u32) -> Summed {

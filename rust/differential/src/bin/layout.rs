@@ -1,6 +1,6 @@
 //! Prints size, alignment and field offsets of each struct, and each constant; `tests/layout.c` prints the header's.
 
-use flowpewter::sys::{self, Climbed, Edited, Listed, Replayed, Span, Summed};
+use flowpewter::sys::{self, Climbed, Edited, Hopped, Listed, Replayed, Span, Summed};
 use flowpewter::*;
 use std::mem::{align_of, offset_of, size_of};
 
@@ -25,6 +25,7 @@ fn main() {
     layout!("span_answer", Span, refusal start words);
     layout!("listed", Listed, refusal len);
     layout!("climbed", Climbed, refusal len links);
+    layout!("hopped", Hopped, refusal len hops);
     layout!("summed", Summed, refusal sum);
     constants!(MAX_ROWS MAX_KEPT MAX_UNDONE JOURNAL_PLACES LAST_DAY MAX_WIDTH MAX_LINES);
     constants!(MAX_NODES CONTENTS BODY LEVEL_MASK CLOSING_BIT ORPHAN_BIT CALL_WORDS);
