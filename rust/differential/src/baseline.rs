@@ -7,7 +7,7 @@
 //! gives all tree sizes backwards and all ranks forwards, without a walk. The lines of a levelled list are sorted as
 //! arrays of their width, and each is compared with the one before. Nothing is allocated.
 
-use flowpewter::sys::{Built, Edited, Listed};
+use flowpewter::sys::{Built, Edited, Hopped, Listed};
 use flowpewter::{
     Board, Days, Entry, Row, BODY, CLOSING_BIT, CONTENTS, LEVEL_MASK, MAX_KEPT, MAX_LINES,
     MAX_NODES, MAX_ROWS, MAX_UNDONE, ORPHAN_BIT,
@@ -941,6 +941,19 @@ fn contents(index: &[u32]) -> Option<(usize, &[u32])> {
     index.get(CONTENTS..CONTENTS + BODY * n).map(|bodies| (n, bodies))
 }
 
+/// The ranks, from `first` on, of the bodies to be kept.
+fn list(first: u32, bodies: &[u32], keeps: impl Fn(&[u32]) -> bool, out: &mut [u32]) -> Listed {
+    let len = bodies.chunks_exact(BODY).filter(|body| keeps(body)).count();
+    if len > out.len() {
+        return Listed { refusal: 16, len: 0 };
+    }
+    let kept = bodies.chunks_exact(BODY).zip(first..).filter(|(body, _)| keeps(body));
+    for (place, (_, rank)) in out[..len].iter_mut().zip(kept) {
+        *place = rank;
+    }
+    Listed { refusal: 0, len }
+}
+
 #[inline(never)]
 pub fn descendants(index: &[u32], rank: u32, lo: i32, hi: i32, out: &mut [u32]) -> Listed {
     let refused = |refusal| Listed { refusal, len: 0 };
@@ -956,18 +969,50 @@ pub fn descendants(index: &[u32], rank: u32, lo: i32, hi: i32, out: &mut [u32]) 
     let span = &bodies[BODY * (first - 1)..BODY * (first + size - 1)];
     let base = (span[5] & LEVEL_MASK) as i64;
     let (lo, hi) = (lo as i64 + base, hi as i64 + base);
-    let keeps = |body: &[u32]| (lo..=hi).contains(&((body[5] & LEVEL_MASK) as i64));
-    let len = span.chunks_exact(BODY).filter(|body| keeps(body)).count();
+    list(rank, span, |body| (lo..=hi).contains(&((body[5] & LEVEL_MASK) as i64)), out)
+}
+
+#[inline(never)]
+pub fn siblings(index: &[u32], rank: u32, out: &mut [u32]) -> Listed {
+    let refused = |refusal| Listed { refusal, len: 0 };
+    let Some((n, bodies)) = contents(index) else { return refused(13) };
+    if rank == 0 || rank as usize > n {
+        return refused(14);
+    }
+    let parent = bodies[BODY * (rank as usize - 1) + 3];
+    list(1, bodies, |body| body[3] == parent, out)
+}
+
+#[inline(never)]
+pub fn siblings_by_hops(index: &[u32], rank: u32, out: &mut [u32]) -> Hopped {
+    let refused = |refusal| Hopped { refusal, len: 0, hops: 0 };
+    let Some((n, bodies)) = contents(index) else { return refused(13) };
+    if rank == 0 || rank as usize > n {
+        return refused(14);
+    }
+    let size = |at: usize| bodies[BODY * (at - 1) + 2] as usize;
+    let parent = bodies[BODY * (rank as usize - 1) + 3] as usize;
+    if parent > n || (parent != 0 && (size(parent) == 0 || parent + size(parent) - 1 > n)) {
+        return refused(15);
+    }
+    let last = if parent == 0 { n } else { parent + size(parent) - 1 };
+    let (mut at, mut len) = (parent + 1, 0);
+    while at <= last {
+        if size(at) == 0 {
+            return refused(15);
+        }
+        len += 1;
+        at += size(at);
+    }
     if len > out.len() {
         return refused(16);
     }
-    let mut places = out.iter_mut();
-    for (number, body) in span.chunks_exact(BODY).enumerate() {
-        if keeps(body) {
-            *places.next().unwrap() = rank + number as u32;
-        }
+    at = parent + 1;
+    for place in &mut out[..len] {
+        *place = at as u32;
+        at += size(at);
     }
-    Listed { refusal: 0, len }
+    Hopped { refusal: 0, len, hops: len }
 }
 
 #[inline(never)]

@@ -2,14 +2,28 @@
 
 use crate::baseline;
 use crate::tally::Tally;
-use flowpewter::sys;
-use generate::{index, navigation_case, NavigationCase, Random};
+use flowpewter::sys::{self, Hopped, Listed};
+use generate::{hop_case, hops, index, navigation_case, NavigationCase, Random};
 use reference::navigation::node_count;
 use reference::{Body, BODY, CONTENTS};
 
 /// Every navigation call on one case.
 pub fn calls(random: &mut Random, tally: &mut Tally) {
     compare(&navigation_case(random), tally);
+}
+
+/// Every navigation call on one case of damage around the hops of siblings; counts how the walk ends.
+pub fn hop_calls(random: &mut Random, tally: &mut Tally) {
+    let case = hop_case(random);
+    compare(&case, tally);
+    let mut list = case.list.clone();
+    let hopped = reference::siblings_by_hops(&case.index, case.rank, &mut list);
+    let ranks = &list[..hopped.length as usize];
+    match hopped.refusal {
+        0 => tally.reach_all(hops::FACTS, hops::facts(&case, ranks)),
+        15 => tally.reach_all(hops::REFUSALS, hops::refusals(&case)),
+        _ => {}
+    }
 }
 
 /// Every navigation call from one rank of what a build left, with random limits and list.
@@ -82,16 +96,9 @@ pub fn compare(case: &NavigationCase, tally: &mut Tally) {
     );
     assert_eq!(list, other, "{case:?}");
 
-    let (mut list, mut other) = (case.list.clone(), case.list.clone());
-    let listed = sys::siblings(index, rank, &mut list);
-    let expected = reference::siblings(index, rank, &mut other);
-    tally.note("siblings", expected.refusal);
-    assert_eq!(
-        (listed.refusal, listed.len),
-        (expected.refusal, expected.length as usize),
-        "{case:?}"
-    );
-    assert_eq!(list, other, "{case:?}");
+    compare_siblings(case, tally);
+    compare_hops(case, tally);
+    compare_both_ways(case, tally);
 
     let summed = sys::subtree_sum(index, totals, rank);
     let expected = reference::subtree_sum(index, totals, rank);
@@ -102,6 +109,62 @@ pub fn compare(case: &NavigationCase, tally: &mut Tally) {
     let expected = reference::path_sum(index, totals, rank);
     tally.note("path_sum", expected.refusal);
     assert_eq!((summed.refusal, summed.sum), (expected.refusal, expected.sum), "{case:?}");
+}
+
+/// Siblings on both sides, and by the baseline that the library is measured against.
+fn compare_siblings(case: &NavigationCase, tally: &mut Tally) {
+    let (index, rank) = (&case.index[..], case.rank);
+    let mut other = case.list.clone();
+    let expected = reference::siblings(index, rank, &mut other);
+    tally.note("siblings", expected.refusal);
+    for call in [sys::siblings, baseline::siblings] {
+        let mut list = case.list.clone();
+        let Listed { refusal, len } = call(index, rank, &mut list);
+        assert_eq!((refusal, len), (expected.refusal, expected.length as usize), "{case:?}");
+        assert_eq!(list, other, "{case:?}");
+    }
+}
+
+/// The safe face's siblings by hops.
+fn hops_by_safe_face(index: &[u32], rank: u32, list: &mut [u32]) -> Hopped {
+    match flowpewter::siblings_by_hops(index, rank, list) {
+        Ok(found) => Hopped { refusal: 0, len: found.ranks.len(), hops: found.hops },
+        Err(refusal) => Hopped { refusal: refusal.number(), len: 0, hops: 0 },
+    }
+}
+
+/// Siblings by hops on both sides, by the safe face too and by the baseline.
+fn compare_hops(case: &NavigationCase, tally: &mut Tally) {
+    let (index, rank) = (&case.index[..], case.rank);
+    let mut other = case.list.clone();
+    let expected = reference::siblings_by_hops(index, rank, &mut other);
+    let answer = Hopped {
+        refusal: expected.refusal,
+        len: expected.length as usize,
+        hops: expected.hops as usize,
+    };
+    tally.note("siblings by hops", answer.refusal);
+    for call in [sys::siblings_by_hops, hops_by_safe_face, baseline::siblings_by_hops] {
+        let mut list = case.list.clone();
+        assert_eq!(call(index, rank, &mut list), answer, "{case:?}");
+        assert_eq!(list, other, "{case:?}");
+    }
+}
+
+/// The library's two sibling calls with each other: on an index that the check accepts they list the same, and there is a
+/// hop for each sibling.
+fn compare_both_ways(case: &NavigationCase, tally: &mut Tally) {
+    let (index, rank) = (&case.index[..], case.rank);
+    let (mut list, mut met) = (case.list.clone(), case.list.clone());
+    let Listed { refusal, len } = sys::siblings(index, rank, &mut list);
+    let hopped = sys::siblings_by_hops(index, rank, &mut met);
+    if sys::index_check(index) {
+        tally.note("siblings both ways", refusal);
+        assert_eq!(hopped, Hopped { refusal, len, hops: len }, "{case:?}");
+        assert_eq!(met, list, "{case:?}");
+    } else if refusal == 0 && hopped.refusal == 0 && met != list {
+        tally.reach("other ranks by hops than the siblings");
+    }
 }
 
 /// What levels come to in an index that the check accepts, and in one that it turns down for them alone, by name.

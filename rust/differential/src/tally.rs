@@ -75,7 +75,8 @@ impl Tally {
         for call in ["span", "subtree_sum", "path_sum"] {
             self.expect(call, &[0, 14], least);
         }
-        for call in ["descendants", "ancestors", "siblings"] {
+        let siblings = ["siblings", "siblings by hops", "siblings both ways"];
+        for call in ["descendants", "ancestors"].into_iter().chain(siblings) {
             self.expect(call, &[0, 14, 16], least);
         }
     }

@@ -2,6 +2,7 @@
 
 use differential::navigation::{self, LEVELS};
 use differential::Tally;
+use generate::hops::{FACTS, REFUSALS};
 
 #[test]
 fn navigation_on_any_slices() {
@@ -10,10 +11,22 @@ fn navigation_on_any_slices() {
     tally.expect("descendants", &[0, 13, 14, 15, 16], 1_000);
     tally.expect("ancestors", &[0, 13, 14, 15, 16], 1_000);
     tally.expect("siblings", &[0, 13, 14, 16], 1_000);
+    tally.expect("siblings by hops", &[0, 13, 14, 15, 16], 1_000);
+    tally.expect("siblings both ways", &[0, 14, 16], 1_000);
     tally.expect("subtree_sum", &[0, 13, 14, 15], 1_000);
     tally.expect("path_sum", &[0, 13, 14, 15], 1_000);
     tally.expect_reached(&["navigation from row number 0"], 500);
     tally.expect_reached(&["descendants with levels left out"], 200);
+}
+
+#[test]
+fn hops_on_damaged_indexes() {
+    let tally = Tally::of_runs("hops", 53, 50_000, navigation::hop_calls);
+    tally.expect("siblings by hops", &[0, 13, 14, 15, 16], 500);
+    tally.expect("siblings both ways", &[0, 14, 16], 200);
+    tally.expect_reached(&["other ranks by hops than the siblings"], 500);
+    tally.expect_reached(&FACTS, 500);
+    tally.expect_reached(&REFUSALS, 200);
 }
 
 #[test]

@@ -8,14 +8,16 @@
 //!
 //! [`ties`] tells which siblings of a built index have equal orders, [`islands`] which
 //! entries were made for rings, [`shortest`] what other rows and paths a placed numeral
-//! has, [`dated`] which rows a window or other rows' days cut off, and [`levelled`] where
-//! lists have blanks and equal lines, so that tests can count what their cases reach.
+//! has, [`dated`] which rows a window or other rows' days cut off, [`levelled`] where lists
+//! have blanks and equal lines, and [`hops`] how the walk over siblings ends on a damaged
+//! index, so that tests can count what their cases reach.
 #![forbid(unsafe_code)]
 
 pub mod boards;
 pub mod builds;
 pub mod dated;
 pub mod histories;
+pub mod hops;
 pub mod indexes;
 pub mod islands;
 pub mod levelled;
@@ -32,7 +34,8 @@ pub use builds::{
 };
 pub use dated::{dated_case, small_dated_boards, DatedCase};
 pub use histories::{history, history_on, History, HISTORIES};
-pub use indexes::{hop_case, index, navigation_case, totals, NavigationCase};
+pub use hops::hop_case;
+pub use indexes::{index, navigation_case, totals, NavigationCase};
 pub use levelled::{levelled_case, LevelledCase};
 pub use listings::listing;
 pub use random::Random;

@@ -4,61 +4,9 @@
 mod common;
 
 use common::Counts;
+use generate::hops::{self, outcome, Outcome, Outcome::*};
 use generate::*;
 use reference::*;
-
-/// How a walk by hops comes out, whatever the length of the list.
-#[derive(Clone, Debug, PartialEq, Eq)]
-enum Outcome {
-    BadContents,
-    NoRank,
-    ParentAbove,
-    ParentSize,
-    ParentEnd,
-    /// A size of 0, after so many ranks.
-    Zero(usize),
-    Ranks(Vec<u32>),
-}
-use Outcome::*;
-
-/// Goes over every rank of the interval and counts down the size of the last one met, on the words
-/// as they are.
-fn outcome(index: &[u32], rank: u32) -> Outcome {
-    if index.len() < 8 || index[1..3] != [8, 6] || index[0] > 65_535 {
-        return BadContents;
-    }
-    let n = index[0];
-    let bodies: Vec<&[u32]> = index[8..].chunks_exact(6).take(n as usize).collect();
-    if bodies.len() < n as usize {
-        return BadContents;
-    }
-    if !(1..=n).contains(&rank) {
-        return NoRank;
-    }
-    let parent = bodies[rank as usize - 1][3];
-    let mut room = n;
-    if parent != 0 {
-        match bodies.get(parent as usize - 1).map(|body| body[2]) {
-            None => return ParentAbove,
-            Some(0) => return ParentSize,
-            Some(size) if size > n - (parent - 1) => return ParentEnd,
-            Some(size) => room = size - 1,
-        }
-    }
-    let mut met = Vec::new();
-    let mut left = 0;
-    for (body, at) in bodies[parent as usize..][..room as usize].iter().zip(parent + 1..) {
-        if left == 0 {
-            left = body[2];
-            if left == 0 {
-                return Zero(met.len());
-            }
-            met.push(at);
-        }
-        left -= 1;
-    }
-    Ranks(met)
-}
 
 /// The refusal that an outcome gives with a list of `room` words.
 fn refusal(outcome: &Outcome, room: usize) -> u32 {
@@ -94,88 +42,6 @@ fn compare(index: &[u32], rank: u32, list: &[u32]) -> Outcome {
     outcome
 }
 
-/// Size and parent rank of a rank.
-fn size_and_parent(index: &[u32], rank: u32) -> (u32, u32) {
-    let body = Body::read(index, rank as usize);
-    (body.size, body.parent)
-}
-
-/// What is of interest about an accepted call: the ranks met, and the words that led there.
-fn facts(index: &[u32], rank: u32, met: &[u32]) -> [bool; 15] {
-    let n = index[0];
-    let (size, parent) = size_and_parent(index, rank);
-    let parent_size = if parent == 0 { 0 } else { size_and_parent(index, parent).0 };
-    let last = if parent == 0 { n } else { parent + parent_size - 1 };
-    let hop = met.last().map_or(0, |at| *at as u64 + size_and_parent(index, *at).0 as u64);
-    let of_parent = |at: &&u32| size_and_parent(index, **at).1 == parent;
-    [
-        parent == 0 && met.len() > 1,
-        parent != 0 && met.len() > 1,
-        parent != 0 && met.is_empty(),
-        parent != 0 && last == n && !met.is_empty(),
-        parent == rank,
-        parent > rank,
-        parent == n,
-        parent != 0 && hop > last as u64 + 1 && last < n,
-        hop > n as u64 + 1,
-        hop >= 1 << 32,
-        hop > 1 << 32 && hop - (1 << 32) <= last as u64,
-        !met.contains(&rank),
-        size == 0,
-        met.iter().filter(of_parent).count() < met.len(),
-        index_check(index) && met.len() > 1,
-    ]
-}
-
-const FACTS: [&str; 15] = [
-    "several roots",
-    "several children",
-    "a parent without room",
-    "a parent that ends at n",
-    "a parent that is the rank itself",
-    "a parent above the rank",
-    "a parent that is the last rank",
-    "a hop beyond the parent's end, which is below n",
-    "a hop beyond n",
-    "a hop that would wrap",
-    "a hop that would wrap to a rank at the walk's end or before",
-    "the rank given isn't listed",
-    "the rank given has size 0, and isn't met",
-    "a rank with another parent is listed",
-    "several siblings on an index that the check accepts",
-];
-
-const REFUSED: [&str; 8] = [
-    "the parent's rank is above n",
-    "the parent's size is 0",
-    "the parent's end is above n",
-    "a size of 0 is met first",
-    "a size of 0 is met later",
-    "a size of 0 is met when the slice is just full",
-    "a size of 0 is met after more ranks than the slice holds",
-    "the size of 0 is that of the rank given",
-];
-
-/// Which of them a call that sentence 15 refuses has.
-fn reasons(case: &NavigationCase, outcome: &Outcome) -> [bool; 8] {
-    let room = case.list.len();
-    let met = match outcome {
-        Zero(met) => Some(*met),
-        _ => None,
-    };
-    let own = size_and_parent(&case.index, case.rank).0 == 0;
-    [
-        *outcome == ParentAbove,
-        *outcome == ParentSize,
-        *outcome == ParentEnd,
-        met == Some(0),
-        met.is_some_and(|met| met > 0),
-        met.is_some_and(|met| met > 0 && met == room),
-        met.is_some_and(|met| met > room),
-        met.is_some() && own,
-    ]
-}
-
 const LISTS: [&str; 4] =
     ["the list is one short", "exact", "longer", "of no words and refused by 16"];
 
@@ -183,7 +49,7 @@ const LISTS: [&str; 4] =
 fn hops_around_damage() {
     let mut random = Random::announced("hops around damage", 111);
     let mut seen = [0u32; 17];
-    let (mut accepted, mut refused) = (Counts::new(FACTS), Counts::new(REFUSED));
+    let (mut accepted, mut refused) = (Counts::new(hops::FACTS), Counts::new(hops::REFUSALS));
     let mut lists = Counts::new(LISTS);
     let mut right = 0;
     for _ in 0..30_000 {
@@ -198,8 +64,8 @@ fn hops_around_damage() {
             lists.add([needed == room + 1, needed == room, needed < room, room == 0 && needed > 0]);
         }
         match (&outcome, refusal) {
-            (Ranks(met), 0) => accepted.add(facts(index, rank, met)),
-            (_, 15) => refused.add(reasons(&case, &outcome)),
+            (Ranks(met), 0) => accepted.add(hops::facts(&case, met)),
+            (_, 15) => refused.add(hops::refusals(&case)),
             _ => {}
         }
     }

@@ -32,6 +32,7 @@ fn main() {
             dated::without_a_window(&mut random, &mut tally);
             levelled::cases(&mut random, &mut tally);
             navigation::calls(&mut random, &mut tally);
+            navigation::hop_calls(&mut random, &mut tally);
             navigation::checks(&mut random, &mut tally);
         }
         builds::codes(&mut random, &mut tally);
