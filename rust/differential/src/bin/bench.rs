@@ -8,9 +8,10 @@ use differential::baseline;
 use differential::databases::DATABASES;
 use flowpewter::sys::{self, Built, Edited};
 use flowpewter::{
-    days_len, index_len, totals_len, Board, Days, Entry, Row, JOURNAL_PLACES, LAST_DAY, MAX_LINES,
-    MAX_NODES, MAX_WIDTH,
+    days_len, index_len, totals_len, Board, Days, Entry, Row, BODY, CONTENTS, JOURNAL_PLACES,
+    LAST_DAY, MAX_LINES, MAX_NODES, MAX_WIDTH,
 };
+use generate::indexes::seal;
 use generate::Random;
 use std::hint::black_box;
 use std::mem::size_of;
@@ -144,10 +145,16 @@ fn race(rounds: u32, mut library: impl FnMut(), mut rust: impl FnMut()) -> (f64,
     best
 }
 
+/// Nanoseconds as microseconds, to the nanosecond below 100.
+fn micros(time: f64) -> String {
+    let places = if time < 100.0 { 3 } else { 2 };
+    format!("{:.places$}", time / 1_000.0)
+}
+
 /// The first five columns of a line.
 fn line(job: &str, work: &str, (library, rust): (f64, f64)) -> String {
-    let (l, r) = (library / 1_000.0, rust / 1_000.0);
-    format!("| {job} | {work} | {l:.2} | {r:.2} | {:.2} |", library / rust)
+    let (l, r) = (micros(library), micros(rust));
+    format!("| {job} | {work} | {l} | {r} | {:.2} |", library / rust)
 }
 
 fn print(job: &str, work: &str, times: (f64, f64)) {
@@ -503,6 +510,81 @@ fn navigation() {
     print("index check", &format!("{n} nodes"), times);
 }
 
+/// An index of 65,534 nodes, by the parent of each rank.
+fn forest(parent_of: impl Fn(usize) -> usize) -> Vec<u32> {
+    let n = 65_534;
+    let mut index = vec![0; index_len(n)];
+    index[..3].copy_from_slice(&[n as u32, CONTENTS as u32, BODY as u32]);
+    let body_at = |rank: usize| CONTENTS + BODY * (rank - 1);
+    for rank in 1..=n {
+        let parent = parent_of(rank);
+        let (root, level) = match parent {
+            0 => (rank as u32, 1),
+            _ => (index[body_at(parent) + 4], index[body_at(parent) + 5] + 1),
+        };
+        let body = [rank as u32, rank as u32, 1, parent as u32, root, level];
+        index[body_at(rank)..][..BODY].copy_from_slice(&body);
+    }
+    for rank in (1..=n).rev().filter(|rank| parent_of(*rank) != 0) {
+        index[body_at(parent_of(rank)) + 2] += index[body_at(rank) + 2];
+    }
+    seal(&mut index);
+    assert!(sys::index_check(&index));
+    index
+}
+
+/// Ten nodes below the first, with thousands of nodes below each.
+fn ten_siblings() -> Vec<u32> {
+    const TREE: usize = 6_554;
+    forest(|rank| match rank {
+        1 => 0,
+        _ if rank % TREE == 2 => 1,
+        _ => (rank - 2) / TREE * TREE + 2,
+    })
+}
+
+/// Both sibling calls from a rank, the one by hops `rounds` times.
+fn siblings(job: &str, index: &[u32], rank: u32, rounds: u32) {
+    let n = index[0] as usize;
+    let (mut list, mut other) = (vec![0; n], vec![0; n]);
+    let listed = sys::siblings(index, rank, &mut list);
+    assert_eq!(listed, baseline::siblings(index, rank, &mut other));
+    assert_eq!(list, other);
+    let scan = race(
+        10,
+        || {
+            black_box(sys::siblings(black_box(index), rank, &mut list));
+        },
+        || {
+            black_box(baseline::siblings(black_box(index), rank, &mut other));
+        },
+    );
+    print(&format!("siblings, {job}"), &format!("{} of {n} ranks", listed.len), scan);
+
+    let (mut met, mut others) = (vec![0; n], vec![0; n]);
+    let hopped = sys::siblings_by_hops(index, rank, &mut met);
+    assert_eq!(hopped, baseline::siblings_by_hops(index, rank, &mut others));
+    assert_eq!(hopped.hops, listed.len);
+    assert!(met == list && others == list);
+    let hops = race(
+        rounds,
+        || {
+            black_box(sys::siblings_by_hops(black_box(index), rank, &mut met));
+        },
+        || {
+            black_box(baseline::siblings_by_hops(black_box(index), rank, &mut others));
+        },
+    );
+    let gain = scan.0 / hops.0;
+    let work = format!("{} of {n} ranks; siblings / by hops {gain:.2}", hopped.len);
+    print(&format!("siblings by hops, {job}"), &work, hops);
+}
+
+fn sibling_calls() {
+    siblings("ten", &ten_siblings(), 32_772, 10_000);
+    siblings("all nodes", &forest(|_| 0), 32_772, 10);
+}
+
 /// The node list as a recursive query; `library` is the time of the whole build in microseconds.
 fn queries(job: &str, rows: &[Row], library: f64) {
     for database in DATABASES {
@@ -544,6 +626,7 @@ fn main() {
     levelled_lists();
     edits();
     navigation();
+    sibling_calls();
     println!();
     println!("| node list | by | query, ms | query / library's build |");
     println!("|---|---|---|---|");
