@@ -1,5 +1,5 @@
 -- The answers of hops, case by case. Assumes nothing.
-use mathlib.Core.Path.{_≡_, refl, ap, _∙_}
+use mathlib.Core.Path.{_≡_, refl, sym, ap, ap₂, _∙_}
 use mathlib.Core.Bool.{Bool, true, false, cond, _||_}
 use mathlib.Core.List.{List}
 use Prim.Native.Nat.{ℕ, _≤_, _<_}
@@ -9,7 +9,7 @@ use borrow.Author.Tests.{lt-ltb, le-ltb, eq-eqb, ne-eqb}
 use Rattle.lists.specs.Choice.{firstOf}
 use Rattle.lists.specs.Lists.{front}
 use Rattle.navigate.specs.Navigate.{listOut}
-use Rattle.hops.specs.Hops.{hoppedAnswer}
+use Rattle.hops.specs.Hops.{hops, zeroMet, hoppedAnswer}
 use Rattle.hops.specs.declared.Hopped.{Hopped}
 use Rattle.hops.specs.declared.Reach.{Reach}
 
@@ -47,10 +47,6 @@ pub parent-refused : (q : ℕ) (a b : Bool) (r : ℕ) (l out : List ℕ) → q �
     → (answer r 0 ≡ hoppedAnswer (firstOf q (cond (a || b) 15 0)) l out) × (out ≡ listOut (firstOf q (cond (a || b) 15 0)) l out)
 parent-refused q a b r l out e t f = (ap (λ (k : ℕ). answer k 0) f ∙ simp (eq-eqb q 0 e, t), simp (eq-eqb q 0 e, t))
 
-pub hops-made : (q : ℕ) (a b : Bool) (l out out' : List ℕ) (x : Hopped) → q ≡ 0 → a ≡ false → x ≡ hoppedAnswer (cond b 15 0) l out → out' ≡ listOut (cond b 15 0) l out
-    → (x ≡ hoppedAnswer (firstOf q (cond (a || b) 15 0)) l out) × (out' ≡ listOut (firstOf q (cond (a || b) 15 0)) l out)
-hops-made q a b l out out' x e t f g = (f ∙ simp (eq-eqb q 0 e, t), g ∙ simp (eq-eqb q 0 e, t))
-
 -- ---- what the parent gives
 
 abbrev ended : Bool → ℕ → Reach
@@ -63,3 +59,21 @@ reach-bad false n x e h = absurd (h (ap (λ (y : Reach). y .refusal) e))
 pub reach-fine : (t : Bool) (n : ℕ) (x : Reach) → x ≡ ended t n → x .refusal ≡ 0 → (t ≡ false) × (x .last ≡ n)
 reach-fine true n x e h = absurd (omega (arith, ap (λ (y : Reach). y .refusal) e))
 reach-fine false n x e h = (refl, ap (λ (y : Reach). y .last) e)
+
+-- ---- hops that were made, from k to the end
+
+module _ (s : List ℕ) (q : ℕ) (a : Bool) (end k : ℕ) (none : q ≡ 0) (fine : a ≡ false) (out out' : List ℕ) (x : Hopped) where
+  abbrev whole : ℕ
+  whole = firstOf q (cond (a || zeroMet s (hops s end k)) 15 0)
+
+  whole-is : whole ≡ cond (zeroMet s (hops s end k)) 15 0
+  whole-is = simp (eq-eqb q 0 none, fine)
+
+  pub hops-made : (last first : ℕ) → last ≡ end → first ≡ k
+      → x ≡ hoppedAnswer (cond (zeroMet s (hops s last first)) 15 0) (hops s last first) out → out' ≡ listOut (cond (zeroMet s (hops s last first)) 15 0) (hops s last first) out
+      → (x ≡ hoppedAnswer whole (hops s end k) out) × (out' ≡ listOut whole (hops s end k) out)
+  hops-made last first e f answered left =
+      let l : hops s last first ≡ hops s end k = ap₂ (hops s) e f in (
+        answered ∙ ap (λ (m : List ℕ). hoppedAnswer (cond (zeroMet s m) 15 0) m out) l ∙ ap (λ (r : ℕ). hoppedAnswer r (hops s end k) out) (sym whole-is),
+        left ∙ ap (λ (m : List ℕ). listOut (cond (zeroMet s m) 15 0) m out) l ∙ ap (λ (r : ℕ). listOut r (hops s end k) out) (sym whole-is),
+      )

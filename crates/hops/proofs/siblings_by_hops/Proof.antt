@@ -9,8 +9,7 @@ use Rattle.lists.specs.ChoiceLaws.{cond-none}
 use Rattle.image.specs.Layout.{nodeCount, parentAt, badContents}
 use Rattle.spans.specs.Spans.{parentEnd, rankRefusal}
 use Rattle.spans.specs.UnrefusedLaws.{Ranked, ranked}
-use Rattle.navigate.specs.Navigate.{listOut}
-use Rattle.hops.specs.Hops.{hops, zeroMet, badParent, siblingHops, badHops, hoppedAnswer}
+use Rattle.hops.specs.Hops.{zeroMet, badParent, siblingHops, badHops}
 use Rattle.hops.specs.HopsLayer.{reached}
 use Rattle.hops.specs.HopLaws.{parent-within}
 use Rattle.hops.proofs.Answers.{rank-refused, parent-refused, hops-made, reach-bad, reach-fine}
@@ -90,19 +89,11 @@ returns-3 c =
     let e = f .before .before .before in
     let x = e .before .before .before .before .args in
     let s = now (x .index) in
-    let q = f .before .before .parent-at .result in
     let p = parentAt s (x .rank) in
     let r = far f in
-    let n = f .before .before .parent-at .ensures in
     let a = c .before .before .list-hops .ensures in
-    let out = now (x .out) in
-    hops-made (rankRefusal s (x .rank)) (badParent s p) (zeroMet s (siblingHops s (x .rank))) (siblingHops s (x .rank)) out _ _ (none e) (r .0)
-    (a .0
-    ∙ ap (λ (m : ℕ). hoppedAnswer (cond (zeroMet s (hops s m (q + 1))) 15 0) (hops s m (q + 1)) out) (r .1)
-    ∙ ap (λ (m : ℕ). hoppedAnswer (cond (zeroMet s (hops s (parentEnd s p) (m + 1))) 15 0) (hops s (parentEnd s p) (m + 1)) out) n)
-    (a .1
-    ∙ ap (λ (m : ℕ). listOut (cond (zeroMet s (hops s m (q + 1))) 15 0) (hops s m (q + 1)) out) (r .1)
-    ∙ ap (λ (m : ℕ). listOut (cond (zeroMet s (hops s (parentEnd s p) (m + 1))) 15 0) (hops s (parentEnd s p) (m + 1)) out) n)
+    let first = ap (λ (m : ℕ). m + 1) (f .before .before .parent-at .ensures) in
+    hops-made s (rankRefusal s (x .rank)) (badParent s p) (parentEnd s p) (p + 1) (none e) (r .0) (now (x .out)) _ _ _ _ (r .1) first (a .0) (a .1)
 
 pub siblings-by-hops-spec : {M : Type 1} → statement M
 siblings-by-hops-spec =
