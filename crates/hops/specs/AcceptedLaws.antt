@@ -6,29 +6,24 @@ use mathlib.Core.List.{List, [], _∷_, _++_, append-nil}
 use Prim.Native.Nat.{ℕ, zero, suc, _+_, _-_, _≤_, _<_}
 use native.Mathlib.Decide.{ℕ-discrete, decLt}
 use native.Mathlib.Omega.{arith}
-use lib.Dec.{T, ltb, eqb}
+use lib.Dec.{T, eqb}
 use lib.ListN.{length}
-use borrow.Author.Tests.{eq-eqb, ne-eqb, eqb-true, eqb-false, ltb-false, le-ltb}
+use borrow.Author.Tests.{eq-eqb, ne-eqb, eqb-true}
 use Rattle.lists.specs.Lists.{_∈_, filter, numbers}
-use Rattle.lists.specs.ChoiceLaws.{or-no, filter-yes}
+use Rattle.lists.specs.ChoiceLaws.{filter-yes}
 use Rattle.lists.specs.MemberLaws.{filter-none, filter-append, is-true, numbers-out, numbers-append}
 use Rattle.image.specs.Layout.{nodeCount, sizeAt, parentAt}
-use Rattle.spans.specs.Spans.{badRank, badSpan, endOf, parentEnd, rankRefusal}
+use Rattle.spans.specs.Spans.{badRank, endOf, parentEnd, rankRefusal}
+use Rattle.spans.specs.UnrefusedLaws.{ranked}
 use Rattle.navigate.specs.Navigate.{siblingList, listRefusal, listOut}
 use Rattle.index_check.specs.IndexCheck.{accepts}
 use Rattle.index_check.specs.RankLaws.{contains-yes, contains-out, parent-largest}
-use Rattle.index_check.specs.CheckLaws.{accepted-good, accepted-rank, accepted-size, accepted-parent, accepted-end, nested-in-parent, nested-or-apart}
+use Rattle.index_check.specs.CheckLaws.{accepted-good, accepted-rank, accepted-size, accepted-parent, accepted-end, ends-in-parent, nested-or-apart}
+use Rattle.index_check.specs.NavigationLaws.{accepted-span}
 use Rattle.hops.specs.Hops.{hops, zeroMet, badParent, siblingHops, badHops, hopsRefusal, siblingsByHopsAnswer, AsSiblings}
-use Rattle.hops.specs.HopLaws.{hop-step, zero-later, hop-done}
+use Rattle.hops.specs.HopLaws.{hop-step, zero-later, hop-done, parent-fine, no-parent}
 
 module _ (s : List ℕ) (accepted : accepts s ≡ true) where
-  -- an interval ends in the parent's
-  ends-in-parent : (k : ℕ) → 1 ≤ k → k ≤ nodeCount s → 0 < parentAt s k → k + sizeAt s k ≤ parentAt s k + sizeAt s (parentAt s k)
-  ends-in-parent k low high some =
-      let z = accepted-size s accepted k low high in
-      let last : ℕ = k + sizeAt s k - 1 in
-      omega (arith, z, contains-out s (parentAt s k) last (nested-in-parent s accepted k low high some last (contains-yes s k last (omega (arith, z)) (omega (arith, z)))) .1)
-
   -- ---- the ranks below a parent: its children's trees lie end to end
 
   module _ (p : ℕ) (within : p ≤ nodeCount s) where
@@ -88,7 +83,7 @@ module _ (s : List ℕ) (accepted : accepts s ≡ true) where
         where
           go : Dec (p ≡ 0) → k + sizeAt s k ≤ suc end
           go (yes z) = omega (arith, end-root z, accepted-end s accepted k low high, size)
-          go (no z) = omega (arith, end-node (omega arith), size, ends-in-parent k low high (omega arith), ap (λ (m : ℕ). m + sizeAt s m) child)
+          go (no z) = omega (arith, end-node (omega arith), size, ends-in-parent s accepted k low high (omega arith), ap (λ (m : ℕ). m + sizeAt s m) child)
 
       -- the rank after a child's tree is a child
       next-child : k + sizeAt s k ≤ end → parentAt s (k + sizeAt s k) ≡ p
@@ -111,7 +106,7 @@ module _ (s : List ℕ) (accepted : accepts s ≡ true) where
           between a = go (decLt q k)
             where
               past : k + sizeAt s k < q + sizeAt s q
-              past = omega (arith, ends-in-parent j (omega (arith, low)) top (omega arith), accepted-size s accepted j (omega (arith, low)) top)
+              past = omega (arith, ends-in-parent s accepted j (omega (arith, low)) top (omega arith), accepted-size s accepted j (omega (arith, low)) top)
 
               go : Dec (q < k) → ⊥
               go (yes l) = omega (arith, child, past, parent-largest s q k (accepted-rank s accepted k low high .parent) l (omega (arith, past)))
@@ -223,7 +218,7 @@ module _ (s : List ℕ) (accepted : accepts s ≡ true) where
             go : Dec (p ≡ 0) → ⊥
             go (yes z) = omega (arith, o, end-root z, end-low, high′)
             go (no z) =
-                omega (arith, o, ends-in-parent j low high′ (omega (arith, q)), accepted-size s accepted j low high′, ap (λ (x : ℕ). x + sizeAt s x) q, end-node (omega arith), end-low)
+                omega (arith, o, ends-in-parent s accepted j low high′ (omega (arith, q)), accepted-size s accepted j low high′, ap (λ (x : ℕ). x + sizeAt s x) q, end-node (omega arith), end-low)
 
     met-all : (hops s end (p + 1) ≡ filter under (numbers 1 (nodeCount s))) × (zeroMet s (hops s end (p + 1)) ≡ false)
     met-all =
@@ -231,14 +226,11 @@ module _ (s : List ℕ) (accepted : accepts s ≡ true) where
         (r .0 ∙ sym all-inside, r .1)
 
     parent-good : badParent s p ≡ false
-    unfolding badParent badSpan
     parent-good = go (ℕ-discrete p 0)
       where
         go : Dec (p ≡ 0) → badParent s p ≡ false
-        go (yes z) = simp (eq-eqb p 0 z)
-        go (no z) =
-            let h = accepted-size s accepted p (omega arith) within in
-            simp (ne-eqb p 0 z, le-ltb (nodeCount s) p within, ne-eqb (sizeAt s p) 0 (λ e. omega arith), le-ltb (nodeCount s) (endOf s p) (accepted-end s accepted p (omega arith) within))
+        go (yes z) = no-parent s p z
+        go (no z) = parent-fine s p (accepted-good s accepted) z (accepted-span s accepted p (omega arith) within)
 
   -- ---- the call
 
@@ -261,17 +253,14 @@ module _ (s : List ℕ) (accepted : accepts s ≡ true) where
       listed : rankRefusal s rank ≡ 0 → hopsRefusal s rank ≡ 0 → siblingHops s rank ≡ siblingList s rank → Judged
 
     judged : Judged
-    unfolding badRank
     judged = go (badRank s rank) refl
       where
         go : (t : Bool) → badRank s rank ≡ t → Judged
         go true e = refused (simp (accepted-good s accepted, e)) (simp (accepted-good s accepted, e))
         go false e =
-            let r = or-no (eqb rank 0) (ltb (nodeCount s) rank) e in
-            let n = eqb-false rank 0 (r .0) in
-            let low : 1 ≤ rank = omega arith in
-            let high : rank ≤ nodeCount s = ltb-false (nodeCount s) rank (r .1) in
-            listed (simp (accepted-good s accepted, e)) (simp (accepted-good s accepted, e, hops-good low high)) (same-list low high)
+            let none : rankRefusal s rank ≡ 0 = simp (accepted-good s accepted, e) in
+            let r = ranked s rank none in
+            listed none (simp (accepted-good s accepted, e, hops-good (r .low) (r .high))) (same-list (r .low) (r .high))
 
     pub accepted-hops : (out : List ℕ) → AsSiblings s rank out
     accepted-hops out = go judged

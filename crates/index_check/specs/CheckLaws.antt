@@ -89,7 +89,7 @@ module _ (s : List ℕ) (accepted : accepts s ≡ true) where
   accepted-parent k h b = parent-below s k h (accepted-rank k h b .parent)
 
   -- an interval ends inside the parent's
-  ends-in-parent : (k : ℕ) → 1 ≤ k → k ≤ nodeCount s → 0 < parentAt s k → k + sizeAt s k ≤ parentAt s k + sizeAt s (parentAt s k)
+  pub ends-in-parent : (k : ℕ) → 1 ≤ k → k ≤ nodeCount s → 0 < parentAt s k → k + sizeAt s k ≤ parentAt s k + sizeAt s (parentAt s k)
   ends-in-parent k h b p = omega (arith, end-in-parent s k (accepted-rank k h b .end) p, accepted-size k h b)
 
   -- every subtree interval is nested in its parent's
