@@ -1,12 +1,14 @@
--- Laws of the climb: one step, its end, its length; the fuel does not matter. Assumes nothing.
+-- Laws of the climb: one step, its end, its length, its ranks; the fuel does not matter. Assumes nothing.
 use mathlib.Core.Path.{_≡_, refl, sym, ap, _∙_}
+use mathlib.Core.Logic.{inl, inr}
 use mathlib.Core.Bool.{Bool, true, false, cond}
 use mathlib.Core.List.{List, [], _∷_}
 use Prim.Native.Nat.{ℕ, zero, suc, _≤_, _<_}
 use native.Mathlib.Omega.{arith}
 use lib.ListN.{length}
 use lib.Dec.{ltb, eqb}
-use borrow.Author.Tests.{ltb-true, ltb-false, lt-ltb, le-ltb, eq-eqb, ne-eqb}
+use borrow.Author.Tests.{ltb-true, ltb-false, lt-ltb, le-ltb, eq-eqb, ne-eqb, eqb-false}
+use Rattle.lists.specs.Lists.{_∈_}
 use Rattle.lists.specs.ChoiceLaws.{cond-agree, cond-short}
 use Rattle.image.specs.Layout.{parentAt}
 use Rattle.climb.specs.Climb.{climbFrom, stuckFrom, chain, badClimb}
@@ -77,3 +79,25 @@ module _ (s : List ℕ) where
 
   pub chain-le : (k : ℕ) → length (chain s k) ≤ k
   chain-le k = climb-le k k
+
+  -- the ranks of a climb are 1 or more, and none is above where it begins
+  climb-ranks : (f k x : ℕ) → x ∈ climbFrom s f k → (1 ≤ x) × (x ≤ k)
+  unfolding climbFrom
+  climb-ranks zero k x m = absurd m
+  climb-ranks (suc f) k x m = go (eqb k 0) refl (ltb (parentAt s k) k) refl (climb-ranks f (parentAt s k) x) m
+    where
+      go : (t : Bool) → eqb k 0 ≡ t → (u : Bool) → ltb (parentAt s k) k ≡ u → (x ∈ climbFrom s f (parentAt s k) → (1 ≤ x) × (x ≤ parentAt s k))
+          → x ∈ cond t [] (k ∷ cond u (climbFrom s f (parentAt s k)) []) → (1 ≤ x) × (x ≤ k)
+      go true e u d rec n = absurd n
+      go false e u d rec (inl q) = let z = eqb-false k 0 e in (omega arith, omega arith)
+      go false e true d rec (inr q) = let r = rec q in (omega arith, omega (arith, ltb-true (parentAt s k) k d))
+      go false e false d rec (inr q) = absurd q
+
+  pub chain-ranks : (k x : ℕ) → x ∈ chain s k → (1 ≤ x) × (x ≤ k)
+  chain-ranks k x m = climb-ranks k k x m
+
+  -- a climb begins with its rank
+  pub chain-first : (k : ℕ) → 0 < k → k ∈ chain s k
+  unfolding climbFrom
+  chain-first zero h = absurd (omega arith)
+  chain-first (suc k) h = rw (ne-eqb (suc k) 0 (λ e. omega arith)) (inl refl)

@@ -5,6 +5,8 @@ ghost use Rattle.board.specs.Edits.{emptyOf, soundOf, addOf, withdrawOf, remark
 ghost use Rattle.navigate.specs.Navigate.{descendantsAnswer, descendantsOut, siblingsAnswer, siblingsOut};
 ghost use Rattle.climb.specs.Climb.{ancestorsAnswer, ancestorsOut};
 ghost use Rattle.hops.specs.Hops.{siblingsByHopsAnswer, siblingsByHopsOut};
+ghost use Rattle.climber.specs.Climber.{climbOneAnswer};
+ghost use Rattle.meet.specs.Meet.{meetAnswer};
 ghost use Rattle.sums.specs.Sums.{subtreeAnswer, pathAnswer};
 ghost use Rattle.index_check.specs.IndexCheck.{accepts};
 ghost use Rattle.request.specs.Build.{startRule, builtOf, indexAfter, totalsAfter, byDefault};
@@ -18,8 +20,10 @@ use board::Board;
 use board::Edited;
 use built::Built;
 use climb::Climbed;
+use climber::ClimbedOne;
 use history::Replayed;
 use hops::Hopped;
+use meet::Meeting;
 use navigate::Listed;
 use options::Depth;
 use request::Start;
@@ -267,6 +271,20 @@ pub extern "C" fn flowpewter_siblings_by_hops(index: &[u32], rank: u32, out: &mu
     ensures { λ _. ⌜ now (out .exit) ≡ siblingsByHopsOut (now (index .entry)) rank (now (out .entry)) ⌝ }
 {
     hops::siblings_by_hops(index, rank, out)
+}
+
+#[no_mangle]
+pub extern "C" fn flowpewter_meet(index: &[u32], a: u32, b: u32) -> Meeting
+    ensures { λ r. ⌜ r ≡ meetAnswer (now (index .entry)) a b ⌝ }
+{
+    meet::meet(index, a, b)
+}
+
+#[no_mangle]
+pub extern "C" fn flowpewter_climb(index: &[u32], rank: u32) -> ClimbedOne
+    ensures { λ r. ⌜ r ≡ climbOneAnswer (now (index .entry)) rank ⌝ }
+{
+    climber::climb(index, rank)
 }
 
 #[no_mangle]

@@ -1,0 +1,43 @@
+-- `climb_one` meets its contract, is safe and ends. Assumes nothing.
+use mathlib.Core.Path.{_≡_, sym, ap, _∙_}
+use mathlib.Core.Bool.{false}
+use denote.Ref.{now}
+use borrow.Author.Needs.{needs}
+use Rattle.spans.specs.Spans.{rankRefusal}
+use Rattle.climber.specs.ClimberLaws.{answer, one-refused, one-broken, one-root, one-up}
+use Rattle.climber.proofs.climb_one.Statement.{statement}
+use Rattle.climber.proofs.climb_one.Tie as tie
+use Rattle.climber.proofs.climb_one.Reads as reads
+use Rattle.climber.proofs.climb_one.Lts as lts
+use Rattle.image.proofs.parent_at.Reads as parent-at-reads
+use Rattle.spans.proofs.rank_refusal.Reads as rank-refusal-reads
+
+none : (c : tie.Else1) → rankRefusal (now (c .before .before .before .args .index)) (c .before .before .before .args .rank) ≡ 0
+none c = sym (c .before .rank-refusal .ensures) ∙ c .if1 .left
+
+rank-refusal-requires : tie.Need-rank-refusal-requires
+rank-refusal-requires c κs = search needs
+
+returns : tie.Need-returns
+returns c = one-refused _ _ _ (c .before .rank-refusal .ensures) (c .if1 .taken)
+
+parent-at-requires : tie.Need-parent-at-requires
+parent-at-requires c κs = search needs
+
+returns-2 : tie.Need-returns-2
+returns-2 c = one-broken _ _ (none (c .before .before)) (rw (sym (c .before .parent-at .ensures)) (c .if2 .taken))
+
+returns-3 : tie.Need-returns-3
+returns-3 c =
+    let e = c .before .before .parent-at .ensures in
+    one-root _ _ (none (c .before .before .before)) (rw (sym e) (c .before .if2 .left)) (sym e ∙ c .if3 .taken)
+
+returns-4 : tie.Need-returns-4
+returns-4 c =
+    let e = c .before .before .parent-at .ensures in
+    ap (answer 0 false) e ∙ one-up _ _ (none (c .before .before .before)) (rw (sym e) (c .before .if2 .left)) (λ z. c .if3 .left (e ∙ z))
+
+pub climb-one-spec : {M : Type 1} → statement M
+climb-one-spec =
+    tie.close
+    (tie.spec rank-refusal-requires returns parent-at-requires returns-2 returns-3 returns-4)

@@ -1,0 +1,2 @@
+pub mod Climber
+pub mod ClimberLaws

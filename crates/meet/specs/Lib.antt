@@ -1,0 +1,5 @@
+pub mod Meet
+pub mod MeetLayer
+pub mod MeetLaws
+pub mod PassingLaws
+pub mod AcceptedLaws
