@@ -1,8 +1,9 @@
 -- On a slice of zeros all navigation is refused 13. Assumes nothing.
-use mathlib.Core.Path.{_≡_, refl, ap}
+use mathlib.Core.Path.{_≡_, refl, sym, ap}
 use mathlib.Core.Bool.{true, cond, _||_, or-true}
 use mathlib.Core.List.{List}
 use Prim.Native.Nat.{ℕ, zero, suc, _-_}
+use native.Mathlib.Omega.{arith}
 use lib.Dec.{ltb}
 use lib.IntN.{ℤ}
 use lib.ListN.{length, replicate}
@@ -12,6 +13,8 @@ use Rattle.spans.specs.Spans.{badRank, badSpan, endOf, rankRefusal, spanRefusal
 use Rattle.navigate.specs.Navigate.{descendantList, siblingList, listAnswer, listOut}
 use Rattle.climb.specs.Climb.{chain, badClimb, climbRefusal, ancestorList, climbAnswer}
 use Rattle.hops.specs.Hops.{siblingHops, badHops, hopsRefusal, hoppedAnswer}
+use Rattle.climber.specs.ClimberLaws.{one-refused}
+use Rattle.meet.specs.MeetLaws.{ranks-refused}
 use Rattle.sums.specs.Sums.{totalAt, fewTotals, totalsRefusal, beyond, sumAnswer, spanSum, badPath, pathSum}
 use Rattle.answers.specs.Answers.{RefusedNavigation}
 
@@ -46,6 +49,8 @@ module _ (n : ℕ) where
     ancestors = λ rank lower upper out. let l : List ℕ = ancestorList zeros rank lower upper in (ap (λ q. climbAnswer q (chain zeros rank) l out) (climb-13 rank), ap (λ q. listOut q l out) (climb-13 rank));
     siblings = λ rank out. let l : List ℕ = siblingList zeros rank in (ap (λ q. listAnswer q l out) (rank-13 rank), ap (λ q. listOut q l out) (rank-13 rank));
     siblings-by-hops = λ rank out. let l : List ℕ = siblingHops zeros rank in (ap (λ q. hoppedAnswer q l out) (hops-13 rank), ap (λ q. listOut q l out) (hops-13 rank));
+    meetings = λ a b. sym (ranks-refused zeros a b 13 (sym (ap (λ q. firstOf q (rankRefusal zeros b)) (rank-13 a))) (λ z. omega arith));
+    climbers = λ rank. sym (one-refused zeros rank 13 (sym (rank-13 rank)) (λ z. omega arith));
     subtree-sums = λ rank. let far : ℕ = cond (beyond (totalAt t (endOf zeros rank)) || beyond (totalAt t (rank - 1))) 15 0 in
         ap (λ q. sumAnswer (firstOf (firstOf q (spanRefusal zeros rank)) far) (spanSum zeros t rank)) (totals-13 t);
     path-sums = λ rank. let far : ℕ = cond (badPath zeros t rank) 15 0 in
