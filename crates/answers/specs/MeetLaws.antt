@@ -69,11 +69,11 @@ module _ {W : List (List ℕ)} (g : Forest W) {bs : List Body} (b : Described W 
         go : LastBeginning g both → ((meetingOf (common s a c) ≡ metAt (meetingRank W a c)) × (1 ≤ meetingRank W a c)) ⊎ ((meetingOf (common s a c) ≡ refused 0) × (meetingRank W a c ≡ 0))
         go (no-node e n) = inr (meets-nowhere (common s a c) (λ x m. let o = both-out x m in n (nodeAt W x) (node-in g x (o .0) (o .1)) (o .2)), ap (λ l. rankOf W (lastNode l)) e ∙ no-rank g)
         go (last-node m t longest) = inl (
-            meets-at (common s a c) (meetingRank W a c) (both-in (meetingRank W a c) (r .0) (r .1) (subst (λ w. T (begins w both)) (sym (r .2)) t))
-            (λ x i. let o = both-out x i in
-            within-interval g x (o .0) (o .1) (meetingRank W a c) (r .0) (r .1) .0 (subst (λ w. T (begins (nodeAt W x) w)) (sym (r .2)) (longest (nodeAt W x) (node-in g x (o .0) (o .1)) (o .2))) .0),
-            r .0,
-            )
+          meets-at (common s a c) (meetingRank W a c) (both-in (meetingRank W a c) (r .0) (r .1) (subst (λ w. T (begins w both)) (sym (r .2)) t))
+              (λ x i. let o = both-out x i in
+              within-interval g x (o .0) (o .1) (meetingRank W a c) (r .0) (r .1) .0 (subst (λ w. T (begins (nodeAt W x) w)) (sym (r .2)) (longest (nodeAt W x) (node-in g x (o .0) (o .1)) (o .2))) .0),
+          r .0,
+        )
           where
             r : (1 ≤ meetingRank W a c) × (meetingRank W a c ≤ length W) × (nodeAt W (meetingRank W a c) ≡ lastNode (beginnings W (commonBeginning (nodeAt W a) (nodeAt W c))))
             r = node-rank g (lastNode (beginnings W both)) m
