@@ -17,7 +17,7 @@ use Rattle.spans.specs.Spans.{rankRefusal}
 use Rattle.spans.specs.HeldLaws.{noRank}
 use Rattle.climb.specs.Climb.{chain, badClimb}
 use Rattle.climber.specs.Climber.{climbOneAnswer}
-use Rattle.climber.specs.ClimberLaws.{answer, one-refused, one-root, one-up}
+use Rattle.climber.specs.ClimberLaws.{one-refused, one-root, one-up}
 use Rattle.climber.specs.declared.ClimbedOne.{ClimbedOne}
 use Rattle.meet.specs.Meet.{common, refused, meetingOf, meetAnswer}
 use Rattle.meet.specs.MeetLaws.{metAt, meets-at, meets-nowhere, common-in, common-out, ranks-refused, ranks-passed}

@@ -2,12 +2,15 @@
 use mathlib.Core.Path.{_≡_}
 use Prim.Native.Nat.{ℕ, zero, suc, _<_}
 use mathlib.Core.List.{List}
-use mathlib.Core.Bool.{true, false, cond}
+use mathlib.Core.Bool.{Bool, true, false, cond}
 use lib.Dec.{leb, eqb}
 use Rattle.lists.specs.Choice.{firstOf}
 use Rattle.image.specs.Layout.{parentAt}
 use Rattle.spans.specs.Spans.{rankRefusal}
 use Rattle.climber.specs.declared.ClimbedOne.{ClimbedOne}
+
+abbrev pub answer : ℕ → Bool → ℕ → ClimbedOne
+answer refusal root rank = record { refusal = refusal; root = root; rank = rank }
 
 -- "Sentences 13 to 15 hold for the climber's calls as well": 13 of the index, 14 of the rank it has come to, 15 of that rank's link
 abbrev pub climbOneRefusal : List ℕ → ℕ → ℕ
@@ -17,8 +20,8 @@ climbOneRefusal s rank = firstOf (rankRefusal s rank) (cond (leb rank (parentAt 
 unfoldable pub climbOneAnswer : List ℕ → ℕ → ClimbedOne
 climbOneAnswer s rank =
     cond (eqb (climbOneRefusal s rank) 0)
-    (cond (eqb (parentAt s rank) 0) (record { refusal = 0; root = true; rank = rank }) (record { refusal = 0; root = false; rank = parentAt s rank }))
-    (record { refusal = climbOneRefusal s rank; root = false; rank = rank })
+    (cond (eqb (parentAt s rank) 0) (answer 0 true rank) (answer 0 false (parentAt s rank)))
+    (answer (climbOneRefusal s rank) false rank)
 
 -- "the rank it has come to" after so many calls, from the rank k on
 abbrev pub comesTo : List ℕ → ℕ → ℕ → ℕ

@@ -1,16 +1,12 @@
 -- A climber's call by its cases. Assumes nothing.
 use mathlib.Core.Path.{_≡_, ap, _∙_}
-use mathlib.Core.Bool.{Bool, true, false}
+use mathlib.Core.Bool.{true, false}
 use mathlib.Core.List.{List}
 use Prim.Native.Nat.{ℕ, _≤_, _<_}
 use borrow.Author.Tests.{lt-leb, le-leb, eq-eqb, ne-eqb}
 use Rattle.image.specs.Layout.{parentAt}
 use Rattle.spans.specs.Spans.{rankRefusal}
-use Rattle.climber.specs.Climber.{climbOneAnswer}
-use Rattle.climber.specs.declared.ClimbedOne.{ClimbedOne}
-
-abbrev pub answer : ℕ → Bool → ℕ → ClimbedOne
-answer q t k = record { refusal = q; root = t; rank = k }
+use Rattle.climber.specs.Climber.{answer, climbOneAnswer}
 
 module _ (s : List ℕ) (k : ℕ) where
   pub one-refused : (q : ℕ) → q ≡ rankRefusal s k → (q ≡ 0 → ⊥) → answer q false k ≡ climbOneAnswer s k

@@ -1,2 +1,3 @@
 pub mod Climber
 pub mod ClimberLaws
+pub mod ClimberCases

@@ -1,6 +1,6 @@
 // A climber over an index image that anybody may have written: it keeps the lent index and the rank it has come to, and goes up one parent for each call.
 ghost use mathlib.Core.Path.{_≡_};
-ghost use Rattle.climber.specs.Climber.{climbOneAnswer};
+ghost use Rattle.climber.specs.Climber.{answer, climbOneAnswer};
 
 // The answer to a call that goes up one parent: whether the rank is a root, and the rank come to.
 #[repr(C)]
@@ -22,38 +22,32 @@ pub struct Rise<'a> {
     pub answer: ClimbedOne,
 }
 
+fn answer(refusal: u32, root: bool, rank: u32) -> ClimbedOne
+    ensures { λ x. ⌜ x ≡ answer refusal «root» rank ⌝ }
+{
+    ClimbedOne {
+        refusal,
+        root,
+        rank,
+    }
+}
+
 // From a rank to its parent. At a root, and where it is refused, it stays.
 fn climb_one(index: &[u32], rank: u32) -> ClimbedOne
     ensures { λ x. ⌜ x ≡ climbOneAnswer (now (index .entry)) rank ⌝ }
 {
     let refusal = spans::rank_refusal(index, rank);
     if refusal != 0 {
-        return ClimbedOne {
-            refusal,
-            root: false,
-            rank,
-        };
+        return answer(refusal, false, rank);
     }
     let parent = image::parent_at(index, rank as usize);
     if rank <= parent {
-        return ClimbedOne {
-            refusal: 15,
-            root: false,
-            rank,
-        };
+        return answer(15, false, rank);
     }
     if parent == 0 {
-        return ClimbedOne {
-            refusal: 0,
-            root: true,
-            rank,
-        };
+        return answer(0, true, rank);
     }
-    ClimbedOne {
-        refusal: 0,
-        root: false,
-        rank: parent,
-    }
+    answer(0, false, parent)
 }
 
 impl<'a> Climber<'a> {

@@ -100,5 +100,5 @@ pub record Build (kind : NodeKind) (Refusal : List (List ℕ) → ℕ → Type 0
   pub refusal : Refusal W (answer .refusal)
   pub refused : answer .refusal ≢ 0 → Refused answer before index unwritten totals
   pub accepted : answer .refusal ≡ 0 → Accepted kind W answer before index unwritten totals
-  -- "Descendants and subtree sum get that index and those totals as the build left them, and are refused exactly when a refusal sentence applies"; ancestors, siblings, siblings by hops and path sums too
+  -- "Descendants and subtree sum get that index and those totals as the build left them, and are refused exactly when a refusal sentence applies"; ancestors, siblings, siblings by hops, meeting places, climbers and path sums too
   pub navigation : answer .refusal ≡ 0 → Navigation (kind .minutes) W fits index totals

@@ -25,7 +25,7 @@ use Rattle.dated.specs.Dated.{CommonDay, DatedNode, datedBuilt, datedIndex, dat
 use Rattle.request.specs.declared.Start.{Start}
 use Rattle.request.specs.Build.{startRule}
 use Rattle.built.specs.declared.Built.{Built}
-use Rattle.answers.specs.Answers.{First, noOther, DistancesAtMostZero, LinksByLevel}
+use Rattle.answers.specs.Answers.{First, noOther, DistancesAtMostZero, LinksByLevel, MeetsAtCommonBeginning}
 use Rattle.guarantee.specs.Builds.{NodeKind, NoRoom, SomeCloses, SomeShare, Refused, Build}
 
 -- "two words a node": the first and the last day of the node of rank k
@@ -99,6 +99,8 @@ module _ (R : List Row) (window : Days) (starts : Row → Bool) (depth : Depth) 
       pub checked : answer .refusal ≡ 0 → accepts index ≡ true
       pub links : answer .refusal ≡ 0 → LinksByLevel index
       pub distances : answer .refusal ≡ 0 → DistancesAtMostZero index
+      -- two paths with days left meet at their longest common beginning (change request 2.10)
+      pub meetings : answer .refusal ≡ 0 → MeetsAtCommonBeginning (build .W) index
 
 -- any dated build on the board b, whose rows are R, and the navigation on what it left
 abbrev pub DatedOn : Board → List Row → Type 0 → Type 0

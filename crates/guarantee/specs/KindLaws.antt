@@ -23,8 +23,9 @@ use Rattle.built.specs.OutcomeLayer.{Outcome, answerWhen, indexWhen, totalsWhen
 use Rattle.forest.specs.Nodes.{nodeAt}
 use Rattle.forest.specs.ForestLaws.{Forest, Closed}
 use Rattle.sums.specs.HeldLaws.{HoldsTotals}
-use Rattle.answers.specs.Answers.{Navigation, DistancesAtMostZero, LinksByBeginnings, LinksByLevel}
+use Rattle.answers.specs.Answers.{Navigation, DistancesAtMostZero, LinksByBeginnings, LinksByLevel, MeetsAtCommonBeginning}
 use Rattle.answers.specs.DescribedLaws.{Described, same-length, count-here, levelled, described-accepted}
+use Rattle.answers.specs.MeetLaws.{meets-at-common-beginning}
 use Rattle.answers.specs.NavigationLaws.{navigation-here, links-by-beginnings, links-by-level, distances-at-most-zero}
 use Rattle.answers.specs.ZeroLaws.{zeros-refused}
 use Rattle.guarantee.specs.Builds.{NodeKind, NodeList, BodyOf, Accepted, Refused, Build}
@@ -67,6 +68,9 @@ module _ (o : Outcome) where
 
       pub distances-here : DistancesAtMostZero (indexWhen o index true)
       distances-here = distances-at-most-zero (g .forest) (g .described) (g .short) (g .small) held
+
+      pub meetings-here : Closed (o .W) → MeetsAtCommonBeginning (o .W) (indexWhen o index true)
+      meetings-here closed = meets-at-common-beginning (g .forest) (g .described) (g .short) (g .small) held closed
 
     -- what holds of an accepted build holds where its refusal is 0
     pub when-none : {q : ℕ} (P : Built → List ℕ → List ℤ → Type 0) → q ≡ 0 → P (answerWhen o q true) (indexWhen o index true) (totalsWhen o totals true) → P (answerWhen o q (eqb q 0)) (indexWhen o index (eqb q 0)) (totalsWhen o totals (eqb q 0))

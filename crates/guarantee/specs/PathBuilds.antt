@@ -24,7 +24,7 @@ use Rattle.islands.specs.Islands.{joined, shownRow, Island}
 use Rattle.nodes.specs.Nodes.{Joining, Node, AnyOrphanNode, NodeBefore}
 use Rattle.nodes.specs.Bodies.{minutesOf, orphanCloses}
 use Rattle.nodes.specs.Refusals.{orphanChoice, given}
-use Rattle.answers.specs.Answers.{First, noOther}
+use Rattle.answers.specs.Answers.{First, noOther, MeetsAtCommonBeginning}
 use Rattle.request.specs.declared.Start.{Start}
 use Rattle.built.specs.declared.Built.{Built}
 use Rattle.request.specs.Build.{startRule, builtOf, indexAfter, totalsAfter}
@@ -89,6 +89,8 @@ module _ (R : List Row) (code : ℕ) (depth : Depth) (starts : Row → Bool) whe
     pub build : Build (buildNodes es) (BuildRefusal es (length before) (length unwritten)) fits answer before index unwritten totals
     -- under adopt and root each row ends a node
     pub none-left : answer .refusal ≡ 0 → 1 < orphanOf code → answer .left ≡ 0
+    -- two paths meet at their longest common beginning (change request 2.10)
+    pub meetings : answer .refusal ≡ 0 → MeetsAtCommonBeginning (build .W) index
 
 -- any build on the board b, whose rows are R, and the navigation on what it left
 abbrev pub BuildOn : Board → List Row → Type 0 → Type 0

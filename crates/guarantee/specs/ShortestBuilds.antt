@@ -23,7 +23,7 @@ use Rattle.shortest.specs.Shortest.{reached, Kept, shortestBuilt, shortestIndex
 use Rattle.request.specs.declared.Start.{Start}
 use Rattle.request.specs.Build.{startRule}
 use Rattle.built.specs.declared.Built.{Built}
-use Rattle.answers.specs.Answers.{First, noOther, DistancesAtMostZero, LinksByLevel}
+use Rattle.answers.specs.Answers.{First, noOther, DistancesAtMostZero, LinksByLevel, MeetsAtCommonBeginning}
 use Rattle.guarantee.specs.Builds.{NodeKind, NoRoom, Refused, Build}
 
 module _ (R : List Row) (starts : Row → Bool) where
@@ -69,6 +69,8 @@ module _ (R : List Row) (starts : Row → Bool) where
     pub checked : answer .refusal ≡ 0 → accepts index ≡ true
     pub links : answer .refusal ≡ 0 → LinksByLevel index
     pub distances : answer .refusal ≡ 0 → DistancesAtMostZero index
+    -- two kept paths meet at their longest common beginning (change request 2.10)
+    pub meetings : answer .refusal ≡ 0 → MeetsAtCommonBeginning (build .W) index
 
 -- any build of shortest placement on the board b, whose rows are R, and the navigation on what it left
 abbrev pub ShortestOn : Board → List Row → Type 0 → Type 0

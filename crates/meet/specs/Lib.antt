@@ -3,3 +3,4 @@ pub mod MeetLayer
 pub mod MeetLaws
 pub mod PassingLaws
 pub mod AcceptedLaws
+pub mod MeetCases

@@ -16,8 +16,8 @@ use Rattle.spans.specs.Spans.{badRank, rankRefusal}
 use Rattle.spans.specs.UnrefusedLaws.{Ranked, ranked}
 use Rattle.climb.specs.Climb.{chain, badClimb}
 use Rattle.climb.specs.ClimbLaws.{chain-step, chain-done, stuck-step, goes-down}
-use Rattle.climber.specs.Climber.{climbOneAnswer, comesTo, Passes}
-use Rattle.climber.specs.ClimberLaws.{answer, one-up}
+use Rattle.climber.specs.Climber.{answer, climbOneAnswer, comesTo, Passes}
+use Rattle.climber.specs.ClimberLaws.{one-up}
 use Rattle.climber.specs.declared.ClimbedOne.{ClimbedOne}
 use Rattle.meet.specs.Meet.{common, refused, meetingOf, meetRefusal, meetAnswer, Meets}
 use Rattle.meet.specs.MeetLaws.{metAt, Answered, met, apart, answered, common-in, common-out}

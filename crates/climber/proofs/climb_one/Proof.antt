@@ -4,11 +4,13 @@ use mathlib.Core.Bool.{false}
 use denote.Ref.{now}
 use borrow.Author.Needs.{needs}
 use Rattle.spans.specs.Spans.{rankRefusal}
-use Rattle.climber.specs.ClimberLaws.{answer, one-refused, one-broken, one-root, one-up}
+use Rattle.climber.specs.Climber.{answer}
+use Rattle.climber.specs.ClimberLaws.{one-refused, one-broken, one-root, one-up}
 use Rattle.climber.proofs.climb_one.Statement.{statement}
 use Rattle.climber.proofs.climb_one.Tie as tie
 use Rattle.climber.proofs.climb_one.Reads as reads
 use Rattle.climber.proofs.climb_one.Lts as lts
+use Rattle.climber.proofs.answer.Reads as answer-reads
 use Rattle.image.proofs.parent_at.Reads as parent-at-reads
 use Rattle.spans.proofs.rank_refusal.Reads as rank-refusal-reads
 
@@ -18,26 +20,50 @@ none c = sym (c .before .rank-refusal .ensures) ∙ c .if1 .left
 rank-refusal-requires : tie.Need-rank-refusal-requires
 rank-refusal-requires c κs = search needs
 
+answer-requires : tie.Need-answer-requires
+answer-requires c κs = search needs
+
 returns : tie.Need-returns
-returns c = one-refused _ _ _ (c .before .rank-refusal .ensures) (c .if1 .taken)
+returns c = c .answer .ensures ∙ one-refused _ _ _ (c .before .before .rank-refusal .ensures) (c .before .if1 .taken)
 
 parent-at-requires : tie.Need-parent-at-requires
 parent-at-requires c κs = search needs
 
+answer-requires-2 : tie.Need-answer-requires-2
+answer-requires-2 c κs = search needs
+
 returns-2 : tie.Need-returns-2
-returns-2 c = one-broken _ _ (none (c .before .before)) (rw (sym (c .before .parent-at .ensures)) (c .if2 .taken))
+returns-2 c =
+    let e = c .before .before .parent-at .ensures in
+    c .answer2 .ensures ∙ one-broken _ _ (none (c .before .before .before)) (rw (sym e) (c .before .if2 .taken))
+
+answer-requires-3 : tie.Need-answer-requires-3
+answer-requires-3 c κs = search needs
 
 returns-3 : tie.Need-returns-3
 returns-3 c =
-    let e = c .before .before .parent-at .ensures in
-    one-root _ _ (none (c .before .before .before)) (rw (sym e) (c .before .if2 .left)) (sym e ∙ c .if3 .taken)
+    let e = c .before .before .before .parent-at .ensures in
+    c .answer3 .ensures ∙ one-root _ _ (none (c .before .before .before .before)) (rw (sym e) (c .before .before .if2 .left)) (sym e ∙ c .before .if3 .taken)
+
+answer-requires-4 : tie.Need-answer-requires-4
+answer-requires-4 c κs = search needs
 
 returns-4 : tie.Need-returns-4
 returns-4 c =
-    let e = c .before .before .parent-at .ensures in
-    ap (answer 0 false) e ∙ one-up _ _ (none (c .before .before .before)) (rw (sym e) (c .before .if2 .left)) (λ z. c .if3 .left (e ∙ z))
+    let e = c .before .before .before .parent-at .ensures in
+    c .answer4 .ensures ∙ ap (answer 0 false) e ∙ one-up _ _ (none (c .before .before .before .before)) (rw (sym e) (c .before .before .if2 .left)) (λ z. c .before .if3 .left (e ∙ z))
 
 pub climb-one-spec : {M : Type 1} → statement M
 climb-one-spec =
     tie.close
-    (tie.spec rank-refusal-requires returns parent-at-requires returns-2 returns-3 returns-4)
+    (tie.spec
+    rank-refusal-requires
+    answer-requires
+    returns
+    parent-at-requires
+    answer-requires-2
+    returns-2
+    answer-requires-3
+    returns-3
+    answer-requires-4
+    returns-4)
