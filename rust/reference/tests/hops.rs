@@ -5,14 +5,15 @@
 mod foreign;
 #[path = "common/marked.rs"]
 mod marked;
+#[path = "common/trees.rs"]
+mod trees;
 
 use foreign::index_of;
-use marked::{board_of, MARKED};
 use reference::*;
-
-/// Places of words in a body.
-const SIZE: usize = 2;
-const PARENT: usize = 3;
+use trees::{
+    bad_contents, chain_of_five, changed, forests, listing_index, other_contents, two_trees,
+    PARENT, SIZE,
+};
 
 /// What the call answers with a list of `room` words: the ranks listed, or the refusal. Length and
 /// hops are their number, or 0; all other words are as before.
@@ -37,40 +38,6 @@ fn hops(index: &[u32], rank: u32) -> Result<Vec<u32>, u32> {
 
 fn listed<const N: usize>(ranks: [u32; N]) -> Result<Vec<u32>, u32> {
     Ok(ranks.to_vec())
-}
-
-/// The index of the scope paper's listing: code 3 over the marked rows.
-fn listing_index() -> Vec<u32> {
-    let (mut index, mut totals) = ([77; 70], [77; 12]);
-    let board = board_of(&MARKED);
-    let built = build_board(&board, 3, None, Start::ParentZero, &mut index, &mut totals);
-    assert_eq!(built, Built { refusal: 0, nodes: 9, left: 0 });
-    index.to_vec()
-}
-
-/// Two roots: rank 1 with children 2, 4 and 5, of which 2 has child 3, and 5 has children 6 and 7;
-/// rank 8 with child 9. Sizes 7, 2, 1, 1, 3, 1, 1, 2, 1.
-fn two_trees() -> Vec<u32> {
-    index_of(&[
-        (7, 0, 1),
-        (2, 1, 2),
-        (1, 2, 3),
-        (1, 1, 2),
-        (3, 1, 2),
-        (1, 5, 3),
-        (1, 5, 3),
-        (2, 0, 1),
-        (1, 8, 2),
-    ])
-}
-
-/// The two trees with words replaced, each by rank and place in the body.
-fn changed(words: &[(u32, usize, u32)]) -> Vec<u32> {
-    let mut index = two_trees();
-    for &(rank, place, word) in words {
-        index[8 + 6 * (rank as usize - 1) + place] = word;
-    }
-    index
 }
 
 // Right indexes.
@@ -112,7 +79,7 @@ fn children_and_roots() {
 fn one_node_many_roots_and_a_chain() {
     assert_eq!(hops(&index_of(&[(1, 0, 1)]), 1), listed([1]));
     let roots = index_of(&[(1, 0, 1); 5]);
-    let chain = index_of(&[(5, 0, 1), (4, 1, 2), (3, 2, 3), (2, 3, 4), (1, 4, 5)]);
+    let chain = chain_of_five();
     for rank in 1..=5 {
         assert_eq!(hops(&roots, rank), listed([1, 2, 3, 4, 5]));
         assert_eq!(hops(&chain, rank), listed([rank]));
@@ -131,46 +98,24 @@ fn siblings_of_a_levelled_list() {
     assert_eq!(hops(&index, 3), listed([3]));
 }
 
-/// Every forest of up to 8 nodes, by the depths of its nodes: from every rank what the old call
-/// lists, in every length of the slice.
+/// Every forest of up to 8 nodes: from every rank what the old call lists, in every length of the
+/// slice.
 #[test]
 fn the_same_as_siblings() {
-    let mut forests = vec![vec![]];
-    let mut count = 0;
-    while let Some(depths) = forests.pop() {
-        if depths.len() < 8 {
-            let deepest = depths.last().map_or(1, |depth| depth + 1);
-            for depth in 1..=deepest {
-                let mut longer: Vec<u32> = depths.clone();
-                longer.push(depth);
-                forests.push(longer);
-            }
-        }
-        let index = forest_of(&depths);
-        assert!(index_check(&index));
-        for rank in 1..=depths.len() as u32 {
+    let forests = forests(8);
+    for index in &forests {
+        for rank in 1..=index[0] {
             for room in 0..=9 {
                 let mut list = vec![77; room];
-                let old = siblings(&index, rank, &mut list);
+                let old = siblings(index, rank, &mut list);
                 list.truncate(old.length as usize);
                 let expected = if old.refusal == 0 { Ok(list) } else { Err(old.refusal) };
-                assert_eq!(hops_in(&index, rank, room), expected);
+                assert_eq!(hops_in(index, rank, room), expected);
             }
         }
-        count += 1;
     }
     // 1 + 1 + 2 + 5 + 14 + 42 + 132 + 429 + 1,430.
-    assert_eq!(count, 2_056);
-}
-
-fn forest_of(depths: &[u32]) -> Vec<u32> {
-    let mut bodies = Vec::new();
-    for (place, depth) in depths.iter().enumerate() {
-        let below = depths[place + 1..].iter().take_while(|other| *other > depth).count();
-        let above = depths[..place].iter().rposition(|other| other < depth);
-        bodies.push((1 + below as u32, above.map_or(0, |place| place as u32 + 1), *depth));
-    }
-    index_of(&bodies)
+    assert_eq!(forests.len(), 2_056);
 }
 
 // The end of the walk.
@@ -253,22 +198,12 @@ fn a_parent_at_or_above_the_rank() {
 #[test]
 fn refused_13() {
     assert_eq!(hops(&[], 1), Err(13));
-    let good = two_trees();
-    for end in 0..good.len() {
-        assert_eq!(hops(&good[..end], 1), Err(13));
-        assert_eq!(hops(&good[..end], 0), Err(13));
-    }
-    for (word, value) in [(1, 7), (2, 5), (0, 10), (0, 65_536), (0, u32::MAX)] {
-        let mut bad = good.clone();
-        bad[word] = value;
+    for bad in bad_contents() {
         for rank in [0, 1, 9, 10, u32::MAX] {
             assert_eq!(hops(&bad, rank), Err(13));
         }
     }
-    // Words 3 to 7 and words beyond don't matter.
-    let mut other = good;
-    other[3..8].fill(u32::MAX);
-    other.extend([u32::MAX; 7]);
+    let other = other_contents();
     assert_eq!(hops(&other, 4), listed([2, 4, 5]));
     assert_eq!(hops(&other, 9), listed([9]));
 }
