@@ -9,6 +9,7 @@
 //! * [`dated`]: the regular paths with days left in a window, and the build from them.
 //! * [`levelled`]: beginnings of the lines of a levelled list, and the build from them.
 //! * [`navigation`]: span, descendants, ancestors, siblings, also by hops, and sums on any slices.
+//! * [`meeting`]: where two nodes meet, and the climber, on any slices.
 //! * [`check`]: the index check.
 //! * [`listing`]: the listing program as a function from input to output.
 //!
@@ -24,6 +25,7 @@ pub mod forest;
 pub mod levelled;
 pub mod listing;
 pub mod machine;
+pub mod meeting;
 pub mod navigation;
 pub mod shortest;
 
@@ -37,6 +39,7 @@ pub use forest::{
 pub use levelled::{build_levelled, Levelled, LevelledNode};
 pub use listing::numerals;
 pub use machine::{Call, Machine};
+pub use meeting::{meet, Climber, Meeting, Step};
 pub use navigation::{
     ancestors, descendants, path_sum, siblings, siblings_by_hops, span, subtree_sum, Climbed,
     Hopped, Listed, Spanned, Summed,

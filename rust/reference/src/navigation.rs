@@ -58,7 +58,7 @@ pub fn node_count(index: &[u32]) -> Option<usize> {
 }
 
 /// Refusals 13 and 14 of an index, else the node count.
-fn enter(index: &[u32], rank: u32) -> Result<usize, u32> {
+pub(crate) fn enter(index: &[u32], rank: u32) -> Result<usize, u32> {
     let n = node_count(index).ok_or(13u32)?;
     if rank == 0 || rank as usize > n {
         return Err(14);
@@ -88,15 +88,21 @@ fn end(index: &[u32], n: usize, rank: u32) -> Result<usize, u32> {
     Ok(end as usize)
 }
 
+/// The parent rank, 0 of a root, or refusal 15.
+pub(crate) fn link(index: &[u32], rank: u32) -> Result<u32, u32> {
+    let parent = Body::read(index, rank as usize).parent;
+    if parent >= rank {
+        return Err(15);
+    }
+    Ok(parent)
+}
+
 /// The node and its ancestors up to the root, or refusal 15.
-fn climb(index: &[u32], rank: u32) -> Result<Vec<u32>, u32> {
+pub(crate) fn climb(index: &[u32], rank: u32) -> Result<Vec<u32>, u32> {
     let mut chain = vec![rank];
     let mut at = rank;
     loop {
-        let parent = Body::read(index, at as usize).parent;
-        if parent >= at {
-            return Err(15);
-        }
+        let parent = link(index, at)?;
         if parent == 0 {
             return Ok(chain);
         }
