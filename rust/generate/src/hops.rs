@@ -1,37 +1,9 @@
 //! Navigation cases around the hops of siblings: damage to words that the walk meets, and what comes
 //! of it.
 
-use crate::indexes::{built, foreign, seal, totals, NavigationCase};
+use crate::indexes::{bodies, parent_at, right, seal, size_at, totals, NavigationCase};
 use crate::random::Random;
-use reference::{index_check, siblings, siblings_by_hops, Body, BODY, CONTENTS};
-
-/// The place of a rank's size in the index.
-fn size_at(rank: u32) -> usize {
-    CONTENTS + BODY * (rank as usize - 1) + 2
-}
-
-/// The place of a rank's parent rank in the index.
-fn parent_at(rank: u32) -> usize {
-    CONTENTS + BODY * (rank as usize - 1) + 3
-}
-
-/// A right index of at least one node, and words beyond it in most cases, for whole bodies too.
-fn right(random: &mut Random) -> Vec<u32> {
-    let mut index = if random.chance(1, 3) {
-        let n = random.between(1, 40);
-        foreign(random, n)
-    } else {
-        loop {
-            let index = built(random).0;
-            if index[0] != 0 {
-                break index;
-            }
-        }
-    };
-    let beyond = BODY * random.below(3);
-    index.extend(random.noise(beyond));
-    index
-}
+use reference::{index_check, siblings, siblings_by_hops, Body};
 
 /// What a walk by hops on a right index meets: the rank it is asked of, the parent, the last rank
 /// up to which it goes, and the siblings.
@@ -196,14 +168,10 @@ use Outcome::*;
 /// Goes over every rank of the interval and counts down the size of the last one met, on the words
 /// as they are.
 pub fn outcome(index: &[u32], rank: u32) -> Outcome {
-    if index.len() < 8 || index[1..3] != [8, 6] || index[0] > 65_535 {
+    let Some(bodies) = bodies(index) else {
         return BadContents;
-    }
-    let n = index[0];
-    let bodies: Vec<&[u32]> = index[8..].chunks_exact(6).take(n as usize).collect();
-    if bodies.len() < n as usize {
-        return BadContents;
-    }
+    };
+    let n = bodies.len() as u32;
     if !(1..=n).contains(&rank) {
         return NoRank;
     }

@@ -3,7 +3,27 @@
 use crate::builds::{node_count, options, rows, start, start_of, SHAPES};
 use crate::levelled::{fitting_case, LevelledCase, CELLS};
 use crate::random::Random;
-use reference::{ancestors, build, build_levelled, descendants, siblings, BODY, CONTENTS};
+use reference::{ancestors, build, build_levelled, descendants, siblings, Body, BODY, CONTENTS};
+
+/// The place of a rank's size in the index.
+pub(crate) fn size_at(rank: u32) -> usize {
+    CONTENTS + BODY * (rank as usize - 1) + 2
+}
+
+/// The place of a rank's parent rank in the index.
+pub(crate) fn parent_at(rank: u32) -> usize {
+    CONTENTS + BODY * (rank as usize - 1) + 3
+}
+
+/// The words of each body, or none where 13's index conditions hold.
+pub(crate) fn bodies(index: &[u32]) -> Option<Vec<&[u32]>> {
+    if index.len() < 8 || index[1..3] != [8, 6] || index[0] > 65_535 {
+        return None;
+    }
+    let n = index[0] as usize;
+    let bodies: Vec<&[u32]> = index[8..].chunks_exact(6).take(n).collect();
+    (bodies.len() == n).then_some(bodies)
+}
 
 /// The index of a levelled list of up to 30 lines and its totals, with up to 8 words beyond.
 pub fn built_levelled(random: &mut Random) -> (Vec<u32>, Vec<i64>) {
@@ -58,8 +78,7 @@ fn level(random: &mut Random, above: u32, height: u32) -> u32 {
     }
 }
 
-/// A right index no build made: a random forest of `n` nodes, with any numerals,
-/// row numbers and flags; in half of the cases with levels left out.
+/// A right index no build made: a random forest of `n` nodes.
 pub fn foreign(random: &mut Random, n: usize) -> Vec<u32> {
     // The chain from a root down to the last node.
     let mut chain: Vec<usize> = Vec::new();
@@ -72,6 +91,13 @@ pub fn foreign(random: &mut Random, n: usize) -> Vec<u32> {
         *parent = chain.last().copied().unwrap_or(0);
         chain.push(rank);
     }
+    foreign_of(random, &parents)
+}
+
+/// A right index of the nodes that have these parents, at place 0 none; with any numerals, row
+/// numbers and flags, in half of the cases with levels left out.
+pub(crate) fn foreign_of(random: &mut Random, parents: &[usize]) -> Vec<u32> {
+    let n = parents.len() - 1;
     let mut sizes = vec![1u32; n + 1];
     let mut heights = vec![0u32; n + 1];
     for rank in (1..=n).rev() {
@@ -96,6 +122,37 @@ pub fn foreign(random: &mut Random, n: usize) -> Vec<u32> {
         let parent = parents[rank] as u32;
         let (numeral, row) = (random.word(), random.word());
         index.extend([numeral, row, sizes[rank], parent, roots[rank], levels[rank] + flags]);
+    }
+    seal(&mut index);
+    index
+}
+
+/// A right index of at least one node, and words beyond it in most cases, for whole bodies too.
+pub(crate) fn right(random: &mut Random) -> Vec<u32> {
+    let mut index = if random.chance(1, 3) {
+        let n = random.between(1, 40);
+        foreign(random, n)
+    } else {
+        loop {
+            let index = built(random).0;
+            if index[0] != 0 {
+                break index;
+            }
+        }
+    };
+    let beyond = BODY * random.below(3);
+    index.extend(random.noise(beyond));
+    index
+}
+
+/// An index of bodies with these sizes and parent ranks, right or not; root ranks and levels are by
+/// the links that lead to a lower rank.
+pub fn linked(sizes_and_parents: &[(u32, u32)]) -> Vec<u32> {
+    let mut index = vec![sizes_and_parents.len() as u32, 8, 6, 0, 0, 0, 0, 0];
+    for (&(size, parent), rank) in sizes_and_parents.iter().zip(1u32..) {
+        let above = (1..rank).contains(&parent).then(|| Body::read(&index, parent as usize));
+        let (root, level) = above.map_or((rank, 1), |above| (above.root, above.level + 1));
+        index.extend([7, 7, size, parent, root, level]);
     }
     seal(&mut index);
     index

@@ -5,6 +5,7 @@ mod common;
 
 use common::Counts;
 use generate::hops::{self, outcome, Outcome, Outcome::*};
+use generate::indexes::linked;
 use generate::*;
 use reference::*;
 
@@ -98,16 +99,10 @@ fn hops_on_every_small_index() {
     let (mut calls, mut right) = (0, 0);
     for n in 0..=3u32 {
         for code in 0..36usize.pow(n) {
-            let mut index = vec![n, 8, 6, 0, 0, 0, 0, 0];
-            for rank in 1..=n {
-                let code = code / 36usize.pow(rank - 1) % 36;
-                let (size, parent) = (WORDS[code / 6], WORDS[code % 6]);
-                let above =
-                    (1..rank).contains(&parent).then(|| Body::read(&index, parent as usize));
-                let (root, level) = above.map_or((rank, 1), |above| (above.root, above.level + 1));
-                index.extend([7, 7, size, parent, root, level]);
-            }
-            generate::indexes::seal(&mut index);
+            let codes = (0..n).map(|place| code / 36usize.pow(place) % 36);
+            let bodies: Vec<(u32, u32)> =
+                codes.map(|code| (WORDS[code / 6], WORDS[code % 6])).collect();
+            let index = linked(&bodies);
             right += index_check(&index) as u32;
             for rank in 0..=n + 1 {
                 for room in 0..=4 {
