@@ -1,5 +1,5 @@
 //! Deterministic random cases for boards, builds, shortest placements, dated builds, levelled
-//! lists, navigation, the index check and the listing program.
+//! lists, navigation, meetings of two nodes, the index check and the listing program.
 //!
 //! Every generator is a plain function of a [`Random`]; the same seed gives the
 //! same cases. The reference is used only to learn how long a slice a case
@@ -9,8 +9,8 @@
 //! [`ties`] tells which siblings of a built index have equal orders, [`islands`] which
 //! entries were made for rings, [`shortest`] what other rows and paths a placed numeral
 //! has, [`dated`] which rows a window or other rows' days cut off, [`levelled`] where lists
-//! have blanks and equal lines, and [`hops`] how the walk over siblings ends on a damaged
-//! index, so that tests can count what their cases reach.
+//! have blanks and equal lines, [`hops`] how the walk over siblings ends on a damaged index, and
+//! [`meetings`] where two climbs meet or break, so that tests can count what their cases reach.
 #![forbid(unsafe_code)]
 
 pub mod boards;
@@ -22,6 +22,7 @@ pub mod indexes;
 pub mod islands;
 pub mod levelled;
 pub mod listings;
+pub mod meetings;
 pub mod random;
 mod rings;
 pub mod shortest;
@@ -38,5 +39,6 @@ pub use hops::hop_case;
 pub use indexes::{index, navigation_case, totals, NavigationCase};
 pub use levelled::{levelled_case, LevelledCase};
 pub use listings::listing;
+pub use meetings::{meeting_case, MeetingCase};
 pub use random::Random;
 pub use shortest::{shortest_case, ShortestCase};
