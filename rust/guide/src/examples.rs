@@ -10,6 +10,7 @@ use crate::tables::{
 use crate::view::{code, lines, Pick, View};
 use crate::Engine;
 use reference::{Asked, Days, Row, Start};
+use std::cmp::Reverse;
 
 const ANY: (i32, i32) = (i32::MIN, i32::MAX);
 
@@ -1442,14 +1443,39 @@ pub fn s8_7_connectivity(engine: &dyn Engine) {
 
 // 8.8 Nearest common ancestor
 
-/// The nearest common ancestor of D1 and D3 in a spanning tree.
+/// The printed query: of all nodes WHERE hierarchy_rank <= MIN(nrank) AND hierarchy_rank +
+/// hierarchy_tree_size > MAX(nrank), the TOP 1 by hierarchy_rank DESC.
+fn top_common_ancestor(view: &View, a: u32, b: u32) -> Option<u32> {
+    let mut found = view.ranks();
+    found.retain(|rank| *rank <= a.min(b) && rank + view.image.body(*rank).size > a.max(b));
+    found.sort_by_key(|rank| Reverse(*rank));
+    found.first().copied()
+}
+
+/// The nearest common ancestor of D1 and D3 in a spanning tree: by ancestors and span, by the printed
+/// query, and by the engine's meeting. The last two agree of every two nodes, also where the query
+/// gives no row: between the trees of B1 and B2 as start nodes.
 pub fn s8_8_nearest_common_ancestor(engine: &dyn Engine) {
     let start = [numeral("A1")];
     let view = View::shortest(engine, t_demo(), Start::Numerals(&start));
     let (low, high) = (view.rank_of("D1"), view.rank_of("D3"));
     let above = view.ancestors(low, ANY.0, ANY.1);
-    let nearest = above.iter().find(|pick| view.in_span(high, pick.rank)).unwrap();
-    view.check(&[*nearest], "HIERARCHY_RANK HIERARCHY_LEVEL NODE_ID\n5 2 B2");
+    let by_span = above.iter().map(|pick| pick.rank).find(|rank| view.in_span(high, *rank));
+    for found in [by_span, top_common_ancestor(&view, low, high), view.meet(low, high)] {
+        let nearest = found.expect("a common ancestor");
+        let pick = Pick { rank: nearest, start: low };
+        view.check(&[pick], "HIERARCHY_RANK HIERARCHY_LEVEL NODE_ID\n5 2 B2");
+    }
+    let starts = [numeral("B1"), numeral("B2")];
+    let apart = View::shortest(engine, t_demo(), Start::Numerals(&starts));
+    assert_eq!(apart.meet(apart.rank_of("C1"), apart.rank_of("D1")), None);
+    for view in [view, apart] {
+        for a in view.ranks() {
+            for b in view.ranks() {
+                assert_eq!(view.meet(a, b), top_common_ancestor(&view, a, b), "{a} and {b}");
+            }
+        }
+    }
 }
 
 // 8.9 Synthetic test data

@@ -1,7 +1,7 @@
 //! A hierarchy built from a source whose columns are levels, and the comparison with a printed
 //! table.
 
-use crate::view::lines;
+use crate::view::{climb, lines};
 use crate::{Engine, Image};
 
 /// A source: lines of one cell for each column, 0 for NULL.
@@ -74,12 +74,9 @@ impl<'a> LevelledView<'a> {
         (1..=self.image.nodes()).collect()
     }
 
-    /// Ranks of a node and its ancestors, nearest first.
+    /// Ranks of a node and its ancestors, nearest first; by a climber, too.
     pub fn ancestors(&self, rank: u32) -> Vec<u32> {
-        let found = self.engine.ancestors(&self.image.index, rank, i32::MIN, i32::MAX);
-        let (ranks, links) = found.expect("ancestors accepted");
-        assert_eq!(links as usize + 1, ranks.len(), "links of {rank}");
-        ranks
+        climb(self.engine, &self.image.index, rank)
     }
 
     /// A source column of a node. A level is that of the ancestor which stands there. An attribute

@@ -89,6 +89,12 @@ pub trait Engine {
     /// The same ranks by hops of tree size, and the hops made.
     fn siblings_by_hops(&self, index: &[u32], rank: u32) -> Result<(Vec<u32>, u32), u32>;
 
+    /// The nearest common ancestor of two nodes, which may be one of them, or none.
+    fn meet(&self, index: &[u32], a: u32, b: u32) -> Result<Option<u32>, u32>;
+
+    /// The parent to which one call of a climber from the rank comes, or none at a root.
+    fn climb(&self, index: &[u32], rank: u32) -> Result<Option<u32>, u32>;
+
     /// The words of the node's span.
     fn span(&self, index: &[u32], rank: u32) -> Result<Vec<u32>, u32>;
 

@@ -35,6 +35,22 @@ pub fn lines(printed: &str) -> Vec<String> {
     printed.trim().lines().map(single).collect()
 }
 
+/// The ranks to which a climber comes from a node, itself included, call by call up to its root: all
+/// its ancestors, nearest first.
+pub fn climb(engine: &dyn Engine, index: &[u32], start: u32) -> Vec<u32> {
+    let (mut ranks, mut at) = (vec![start], start);
+    while let Some(parent) = engine.climb(index, at).expect("climb accepted") {
+        assert!(parent < at, "climb from {at}");
+        ranks.push(parent);
+        at = parent;
+    }
+    let found = engine.ancestors(index, start, i32::MIN, i32::MAX);
+    let (all, links) = found.expect("ancestors accepted");
+    assert_eq!(ranks, all, "climb from {start}");
+    assert_eq!(links as usize + 1, all.len(), "links of {start}");
+    ranks
+}
+
 impl<'a> View<'a> {
     /// Builds a view; its index must pass the index check.
     pub fn new(
@@ -110,12 +126,26 @@ impl<'a> View<'a> {
         ranks.expect("descendants accepted").into_iter().map(|rank| Pick { rank, start }).collect()
     }
 
-    /// Ancestors of a start node within the limits, nearest first.
+    /// Ancestors of a start node within the limits, nearest first; all of them by a climber, too.
     pub fn ancestors(&self, start: u32, lower: i32, upper: i32) -> Vec<Pick> {
         let found = self.engine.ancestors(&self.image.index, start, lower, upper);
         let (ranks, links) = found.expect("ancestors accepted");
         assert_eq!(links + 1, self.image.body(start).level, "links of {start}");
+        let all = climb(self.engine, &self.image.index, start);
+        assert!(ranks.iter().all(|rank| all.contains(rank)), "climb from {start}");
         ranks.into_iter().map(|rank| Pick { rank, start }).collect()
+    }
+
+    /// The nearest common ancestor of two nodes, if there is one. Climbing from either, it is the first
+    /// rank to which one comes from the other, too.
+    pub fn meet(&self, a: u32, b: u32) -> Option<u32> {
+        let found = self.engine.meet(&self.image.index, a, b).expect("meeting accepted");
+        let [from_a, from_b] = [a, b].map(|rank| climb(self.engine, &self.image.index, rank));
+        for (from, other) in [(&from_a, &from_b), (&from_b, &from_a)] {
+            let first = from.iter().copied().find(|rank| other.contains(rank));
+            assert_eq!(first, found, "climbs from {a} and {b}");
+        }
+        found
     }
 
     /// Siblings of a start node, the same by hops: one for each.

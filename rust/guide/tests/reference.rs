@@ -122,6 +122,16 @@ impl Engine for Reference {
         Ok((list, hopped.hops))
     }
 
+    fn meet(&self, index: &[u32], a: u32, b: u32) -> Result<Option<u32>, u32> {
+        let meeting = meet(index, a, b);
+        of(meeting.refusal).map(|()| meeting.found.then_some(meeting.rank))
+    }
+
+    fn climb(&self, index: &[u32], rank: u32) -> Result<Option<u32>, u32> {
+        let step = Climber::at(index, rank).up();
+        of(step.refusal).map(|()| (!step.root).then_some(step.rank))
+    }
+
     fn span(&self, index: &[u32], rank: u32) -> Result<Vec<u32>, u32> {
         let spanned = span(index, rank);
         of(spanned.refusal)?;
