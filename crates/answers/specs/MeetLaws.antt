@@ -18,13 +18,13 @@ use Rattle.spans.specs.HeldLaws.{noRank}
 use Rattle.climb.specs.Climb.{chain, badClimb}
 use Rattle.climber.specs.Climber.{climbOneAnswer}
 use Rattle.climber.specs.ClimberLaws.{one-refused, one-root, one-up}
-use Rattle.climber.specs.declared.ClimbedOne.{ClimbedOne}
 use Rattle.meet.specs.Meet.{common, refused, meetingOf, meetAnswer}
 use Rattle.meet.specs.MeetLaws.{metAt, meets-at, meets-nowhere, common-in, common-out, ranks-refused, ranks-passed}
+use Rattle.meet.specs.PassingLaws.{meeting}
 use Rattle.meet.specs.AcceptedLaws.{apart-by-roots}
 use Rattle.meet.specs.declared.Meeting.{Meeting}
 use Rattle.forest.specs.Nodes.{begins, commonBeginning, lastNode, falling, rankOf, nodeAt, beginnings, aboveRank, meetingRank}
-use Rattle.forest.specs.BeginningLaws.{begins-trans, common-left, common-right, begins-common}
+use Rattle.forest.specs.BeginningLaws.{begins-trans, common-begins-first, common-begins-second, begins-common}
 use Rattle.forest.specs.ForestLaws.{Forest, Closed, LastBeginning, no-node, last-node, last-beginning, RootNode, ChildNode, ranked, within-interval, node-in, node-rank, no-rank, closed-meeting}
 use Rattle.answers.specs.Answers.{First, applies, otherwise, noOther, NoRank, NodesMeet, ClimbsOne, MeetsAtCommonBeginning}
 use Rattle.answers.specs.DescribedLaws.{Described, same-length, parent-here, described-accepted}
@@ -59,8 +59,8 @@ module _ {W : List (List ℕ)} (g : Forest W) {bs : List Body} (b : Described W 
 
     both-in : (x : ℕ) → 1 ≤ x → x ≤ length W → T (begins (nodeAt W x) both) → x ∈ common s a c
     both-in x i j t =
-        common-in s a c x (chain-in a a-low a-high x i j (begins-trans (nodeAt W x) both (nodeAt W a) t (common-left (nodeAt W a) (nodeAt W c))))
-        (chain-in c c-low c-high x i j (begins-trans (nodeAt W x) both (nodeAt W c) t (common-right (nodeAt W a) (nodeAt W c))))
+        common-in s a c x (chain-in a a-low a-high x i j (begins-trans (nodeAt W x) both (nodeAt W a) t (common-begins-first (nodeAt W a) (nodeAt W c))))
+        (chain-in c c-low c-high x i j (begins-trans (nodeAt W x) both (nodeAt W c) t (common-begins-second (nodeAt W a) (nodeAt W c))))
 
     -- they meet at the longest node that both begin with, or there is none
     place : ((meetingOf (common s a c) ≡ metAt (meetingRank W a c)) × (1 ≤ meetingRank W a c)) ⊎ ((meetingOf (common s a c) ≡ refused 0) × (meetingRank W a c ≡ 0))
@@ -78,7 +78,7 @@ module _ {W : List (List ℕ)} (g : Forest W) {bs : List Body} (b : Described W 
             r : (1 ≤ meetingRank W a c) × (meetingRank W a c ≤ length W) × (nodeAt W (meetingRank W a c) ≡ lastNode (beginnings W (commonBeginning (nodeAt W a) (nodeAt W c))))
             r = node-rank g (lastNode (beginnings W both)) m
 
-  -- all that is said of the answer but the roots
+  -- what is said of the answer in the words of nodes
   record Said (a c : ℕ) (x : Meeting) : Type 0 where
     refusal : First (NoRank W a ⊎ NoRank W c) 14 noOther (x .refusal)
     accepted : x .refusal ≡ 0 → x .rank ≡ meetingRank W a c
@@ -122,7 +122,7 @@ module _ {W : List (List ℕ)} (g : Forest W) {bs : List Body} (b : Described W 
   pub meetings-here : (a c : ℕ) → NodesMeet W s a c (meetAnswer s a c)
   meetings-here a c =
       let r = said a c in
-      record { refusal = r .refusal; accepted = r .accepted; none = r .none; roots = apart-by-roots s (described-accepted g b short h small) a c; refused = r .refused }
+      record { refusal = r .refusal; accepted = r .accepted; none = r .none; roots = apart-by-roots s (described-accepted g b short h small) a c; passed = λ z f. let m = meeting s a c z in (m .from-a f, m .from-b f); refused = r .refused }
 
   -- in a closed list
   pub meets-at-common-beginning : Closed W → MeetsAtCommonBeginning W s

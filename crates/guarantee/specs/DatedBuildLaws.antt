@@ -41,7 +41,7 @@ use Rattle.answers.specs.DescribedLaws.{Described, closed-described}
 use Rattle.answers.specs.Answers.{DistancesAtMostZero, LinksByLevel, MeetsAtCommonBeginning}
 use Rattle.index_check.specs.IndexCheck.{accepts}
 use Rattle.guarantee.specs.Builds.{NodeKind, NodeList, BodyOf, NoRoom, Refused}
-use Rattle.guarantee.specs.KindLaws.{zeroed, Fitting, kind-build, when-none, checked-here, levels-here, distances-here, meetings-here}
+use Rattle.guarantee.specs.KindLaws.{zeroed, Fitting, kind-build, when-none, checked-here, levels-here, distances-here, common-beginnings-here}
 use Rattle.guarantee.specs.SentenceLaws.{ninth, tenth, eleventh}
 use Rattle.guarantee.specs.DatedBuilds.{firstDay, lastDay, datedNodes, NodeDays, DatedRefusal, DatedBuild, DatedOn, UnsoundDated}
 
@@ -218,7 +218,7 @@ module _ (R : List Row) (window : Days) (starts : Row → Bool) (depth : Depth) 
         checked = λ z. when-none outcome index totals (λ a i t. accepts i ≡ true) z (checked-here outcome index totals (fitting (sym e ∙ z)));
         links = λ z. when-none outcome index totals (λ a i t. LinksByLevel i) z (levels-here outcome index totals (fitting (sym e ∙ z)) (dated-closed R window starts depth));
         distances = λ z. when-none outcome index totals (λ a i t. DistancesAtMostZero i) z (distances-here outcome index totals (fitting (sym e ∙ z)));
-        meetings = λ z. when-none outcome index totals (λ a i t. MeetsAtCommonBeginning W i) z (meetings-here outcome index totals (fitting (sym e ∙ z)) (dated-closed R window starts depth));
+        meetings = λ z. when-none outcome index totals (λ a i t. MeetsAtCommonBeginning W i) z (common-beginnings-here outcome index totals (fitting (sym e ∙ z)) (dated-closed R window starts depth));
       }
 
 -- ---- a build on a sound board, and on one that isn't

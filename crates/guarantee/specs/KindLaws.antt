@@ -69,8 +69,8 @@ module _ (o : Outcome) where
       pub distances-here : DistancesAtMostZero (indexWhen o index true)
       distances-here = distances-at-most-zero (g .forest) (g .described) (g .short) (g .small) held
 
-      pub meetings-here : Closed (o .W) → MeetsAtCommonBeginning (o .W) (indexWhen o index true)
-      meetings-here closed = meets-at-common-beginning (g .forest) (g .described) (g .short) (g .small) held closed
+      pub common-beginnings-here : Closed (o .W) → MeetsAtCommonBeginning (o .W) (indexWhen o index true)
+      common-beginnings-here closed = meets-at-common-beginning (g .forest) (g .described) (g .short) (g .small) held closed
 
     -- what holds of an accepted build holds where its refusal is 0
     pub when-none : {q : ℕ} (P : Built → List ℕ → List ℤ → Type 0) → q ≡ 0 → P (answerWhen o q true) (indexWhen o index true) (totalsWhen o totals true) → P (answerWhen o q (eqb q 0)) (indexWhen o index (eqb q 0)) (totalsWhen o totals (eqb q 0))

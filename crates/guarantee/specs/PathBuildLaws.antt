@@ -35,7 +35,7 @@ use Rattle.nodes.specs.LeftLaws.{accepted-leaves-none}
 use Rattle.request.specs.Build.{startRule, buildRefusal, builtOf, indexAfter, totalsAfter}
 use Rattle.built.specs.OutcomeLayer.{Outcome, answerWhen, indexWhen, totalsWhen}
 use Rattle.answers.specs.Answers.{MeetsAtCommonBeginning}
-use Rattle.guarantee.specs.KindLaws.{unsound-refused, Fitting, meetings-here, when-none, kind-build}
+use Rattle.guarantee.specs.KindLaws.{unsound-refused, Fitting, common-beginnings-here, when-none, kind-build}
 use Rattle.guarantee.specs.PathBuilds.{buildNodes, BuildRefusal, PathBuild, BuildOn, RowsFit, UnsoundBuild}
 use Rattle.guarantee.specs.BodyLaws.{node-list, body-of, described, short}
 use Rattle.guarantee.specs.SentenceLaws.{first-sentence}
@@ -108,7 +108,7 @@ module _ (R : List Row) (code : ℕ) (depth : Depth) (starts : Row → Bool) whe
           (BuildRefusal R code depth starts es (length index) (length totals)) q (subst (BuildRefusal R code depth starts es (length index) (length totals) W) (sym e) (first-sentence R code depth starts (length index) (length totals)))
           (λ z. fitting (sym e ∙ z)) fits (λ g p m. joined-fit R es (λ r i. f g r i .sfits) (last p));
       none-left = λ z h. ap (λ (n : ℕ). cond (eqb q 0) n 0) (whole (sym e ∙ z) h) ∙ no-more (eqb q 0);
-      meetings = λ z. when-none outcome index totals (λ a i t. MeetsAtCommonBeginning W i) z (meetings-here outcome index totals (fitting (sym e ∙ z)) (nodes-closed R starts depth o (allowed (sym e ∙ z))));
+      meetings = λ z. when-none outcome index totals (λ a i t. MeetsAtCommonBeginning W i) z (common-beginnings-here outcome index totals (fitting (sym e ∙ z)) (nodes-closed R starts depth o (allowed (sym e ∙ z))));
     }
       where
         no-more : (t : Bool) → _≡_ {A = ℕ} (cond t 0 0) 0

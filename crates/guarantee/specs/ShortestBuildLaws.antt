@@ -32,7 +32,7 @@ use Rattle.answers.specs.Answers.{DistancesAtMostZero, LinksByLevel, MeetsAtCom
 use Rattle.index_check.specs.IndexCheck.{accepts}
 use Rattle.guarantee.specs.Builds.{NodeList, BodyOf}
 use Rattle.built.specs.OutcomeLayer.{Outcome, answerWhen, indexWhen, totalsWhen}
-use Rattle.guarantee.specs.KindLaws.{unsound-refused, Fitting, kind-build, when-none, checked-here, levels-here, distances-here, meetings-here}
+use Rattle.guarantee.specs.KindLaws.{unsound-refused, Fitting, kind-build, when-none, checked-here, levels-here, distances-here, common-beginnings-here}
 use Rattle.guarantee.specs.ShortestBuilds.{keptNodes, ShortestRefusal, ShortestBuild, ShortestOn, UnsoundShortest}
 use Rattle.guarantee.specs.SentenceLaws.{ninth}
 
@@ -101,7 +101,7 @@ module _ (R : List Row) (starts : Row → Bool) where
       checked = λ z. when-none outcome index totals (λ a i t. accepts i ≡ true) z (checked-here outcome index totals fitting);
       links = λ z. when-none outcome index totals (λ a i t. LinksByLevel i) z (levels-here outcome index totals fitting (shortest-closed R starts));
       distances = λ z. when-none outcome index totals (λ a i t. DistancesAtMostZero i) z (distances-here outcome index totals fitting);
-      meetings = λ z. when-none outcome index totals (λ a i t. MeetsAtCommonBeginning W i) z (meetings-here outcome index totals fitting (shortest-closed R starts));
+      meetings = λ z. when-none outcome index totals (λ a i t. MeetsAtCommonBeginning W i) z (common-beginnings-here outcome index totals fitting (shortest-closed R starts));
     }
 
 pub shortest-on : (b : Board) → soundOf b ≡ true → length (rowsOf b) ≤ 1024 → (fits : Type 0) → (fits → (r : Row) → r ∈ rowsOf b → mag (r .minutes) < 2147483648) → ShortestOn b (rowsOf b) fits

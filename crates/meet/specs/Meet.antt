@@ -1,6 +1,6 @@
 -- Paper 02, request 2.10, "Where two parts meet": what the call answers to any slice and any two ranks, and what is said of its answer. Assumes nothing: these are definitions.
 use mathlib.Core.Path.{_≡_}
-use mathlib.Core.Logic.{_≢_, _↔_}
+use mathlib.Core.Logic.{_↔_}
 use Prim.Native.Nat.{ℕ, _≤_}
 use mathlib.Core.List.{List, [], _∷_}
 use mathlib.Core.Bool.{true, false, cond, _||_}

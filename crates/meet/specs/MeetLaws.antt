@@ -91,17 +91,17 @@ module _ (s : List ℕ) where
 
   -- ---- of two ranks the larger goes up
 
-  pub common-right : (x y : ℕ) → x < y → parentAt s y < y → common s x y ≡ common s x (parentAt s y)
+  pub second-up : (x y : ℕ) → x < y → parentAt s y < y → common s x y ≡ common s x (parentAt s y)
   unfolding common
-  common-right x y h p =
+  second-up x y h p =
       filter-agree _ _ (chain s x)
       (λ z m.
       ap (any (eqb z)) (chain-step s y (omega arith) p)
       ∙ ap (λ (t : Bool). t || any (eqb z) (chain s (parentAt s y))) (ne-eqb z y (λ e. omega (arith, chain-ranks s x z m .1))))
 
-  pub common-left : (x y : ℕ) → y < x → parentAt s x < x → common s x y ≡ common s (parentAt s x) y
+  pub first-up : (x y : ℕ) → y < x → parentAt s x < x → common s x y ≡ common s (parentAt s x) y
   unfolding common
-  common-left x y h p =
+  first-up x y h p =
       ap (filter (λ k. any (eqb k) (chain s y))) (chain-step s x (omega arith) p)
       ∙ filter-no (λ k. any (eqb k) (chain s y)) x (chain s (parentAt s x))
       (is-false (any (eqb x) (chain s y)) (λ t. let o = any-out (eqb x) (chain s y) t in omega (arith, eqb→eq x (o .0) (o .2), chain-ranks s y (o .0) (o .1) .1)))

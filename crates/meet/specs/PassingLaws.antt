@@ -1,15 +1,13 @@
 -- A climber passes through every rank of its climb; so an answer that is no refusal is as Meets says. Assumes nothing.
 use mathlib.Core.Path.{_≡_, refl, sym, ap, subst, _∙_}
 use mathlib.Core.Logic.{_⊎_, inl, inr}
-use mathlib.Core.Bool.{Bool, true, false, cond, _||_, true≢false}
+use mathlib.Core.Bool.{Bool, false, cond, _||_, true≢false}
 use mathlib.Core.List.{List}
 use Prim.Native.Nat.{ℕ, zero, suc, _≤_, _<_}
 use native.Mathlib.Omega.{arith}
 use native.Mathlib.Decide.{ℕ-discrete}
-use lib.Dec.{eqb}
 use borrow.Author.Tests.{le-ltb, eq-eqb, ne-eqb}
 use Rattle.lists.specs.Lists.{_∈_}
-use Rattle.lists.specs.Choice.{firstOf}
 use Rattle.lists.specs.ChoiceLaws.{or-no, cond-none, first-zero}
 use Rattle.image.specs.Layout.{nodeCount, parentAt, badContents}
 use Rattle.spans.specs.Spans.{badRank, rankRefusal}
@@ -21,7 +19,6 @@ use Rattle.climber.specs.ClimberLaws.{one-up}
 use Rattle.climber.specs.declared.ClimbedOne.{ClimbedOne}
 use Rattle.meet.specs.Meet.{common, refused, meetingOf, meetRefusal, meetAnswer, Meets}
 use Rattle.meet.specs.MeetLaws.{metAt, Answered, met, apart, answered, common-in, common-out}
-use Rattle.meet.specs.declared.Meeting.{Meeting}
 
 -- a lower rank than one that the index has
 lower-rank : (s : List ℕ) (k j : ℕ) → rankRefusal s k ≡ 0 → 0 < j → j ≤ k → rankRefusal s j ≡ 0

@@ -132,6 +132,42 @@ fn siblings_by_hops(index: &[u32], rank: u32, from: usize) {
     words(all);
 }
 
+fn yes_or_no(answer: bool) {
+    if answer {
+        say(b"yes");
+    } else {
+        say(b"no");
+    }
+}
+
+fn meet(index: &[u32], a: u32, b: u32) {
+    let found = meet::meet(index, a, b);
+    say(b"meeting of ");
+    word(a);
+    say(b" and ");
+    word(b);
+    refused(found.refusal);
+    say(b" found ");
+    yes_or_no(found.found);
+    say(b" rank ");
+    word(found.rank);
+    say(b"\n");
+}
+
+// One call of a climber; the rank that it has come to.
+fn climb(index: &[u32], rank: u32) -> u32 {
+    let found = climber::climb(index, rank);
+    say(b"climb from ");
+    word(rank);
+    refused(found.refusal);
+    say(b" root ");
+    yes_or_no(found.root);
+    say(b" rank ");
+    word(found.rank);
+    say(b"\n");
+    found.rank
+}
+
 fn span(index: &[u32], rank: u32) {
     say(b"span of ");
     word(rank);
@@ -169,6 +205,8 @@ fn each_call(title: &[u8], index: &[u32], totals: &[i64], rank: u32) {
     ancestors(index, rank, -9, 0, 0);
     siblings(index, rank, 0);
     siblings_by_hops(index, rank, 0);
+    meet(index, rank, 8);
+    climb(index, rank);
     subtree_sum(index, totals, rank);
     path_sum(index, totals, rank);
 }
@@ -282,6 +320,52 @@ fn damaged_hops() {
     both_siblings(b"a size of 0, not met", 40, 0, 3, 8);
 }
 
+fn meetings() {
+    let index = cases::INDEX;
+    say(b"meetings\n");
+    meet(&index, 5, 3);
+    meet(&index, 3, 5);
+    meet(&index, 5, 5);
+    meet(&index, 8, 5);
+    meet(&index, 9, 9);
+}
+
+fn way_up(title: &[u8], index: &[u32], rank: u32) {
+    say(title);
+    say(b"\n");
+    let first = climb(index, rank);
+    let second = climb(index, first);
+    let third = climb(index, second);
+    let fourth = climb(index, third);
+    climb(index, fourth);
+}
+
+fn ways_up() {
+    let index = cases::INDEX;
+    way_up(b"up to a root, where it stays", &index, 5);
+    let broken = damaged(17, 2);
+    way_up(b"up to a broken link, where it stays", &broken, 5);
+}
+
+fn broken_link() {
+    let index = damaged(53, 8);
+    say(b"the parent rank of 8 is 8\n");
+    meet(&index, 8, 1);
+    meet(&index, 1, 8);
+    meet(&index, 8, 8);
+    meet(&index, 8, 10);
+    meet(&index, 7, 5);
+}
+
+fn other_links() {
+    let above = damaged(17, 2);
+    say(b"the parent rank of 2 is 2\n");
+    meet(&above, 4, 5);
+    let elsewhere = damaged(53, 5);
+    say(b"the parent rank of 8 is 5\n");
+    meet(&elsewhere, 8, 4);
+}
+
 fn with_total(title: &[u8], at: usize, total: i64) {
     let index = cases::INDEX;
     let totals = changed(at, total);
@@ -318,5 +402,9 @@ fn main() {
     damaged_contents();
     damaged_bodies();
     damaged_hops();
+    meetings();
+    ways_up();
+    broken_link();
+    other_links();
     damaged_totals();
 }

@@ -1,5 +1,5 @@
--- `climber::climb` meets its contract: a walk of its MIR, by hand. A climber is made and goes up once.
-use mathlib.Core.Path.{_≡_, refl, ap, sym, _∙_}
+-- `climber::climb` meets its contract: a walk of its MIR, by hand. A climber is made and goes up once. Assumes nothing.
+use mathlib.Core.Path.{_≡_, refl, ap, _∙_}
 use Prim.Native.Nat.{ℕ, _<_, _^_}
 use mathlib.Core.List.{List, [], _∷_}
 use lib.ListN.{length}
@@ -16,7 +16,7 @@ use ghost.Atoms.{Atoms, sem}
 use contract.Lifetimes.{Lfts}
 use contract.Monad.{Fun, fact}
 use contract.Running.{givenOf, tables, tablesOf}
-use types.Kit.{Given, ‵, raw, _⊛_, given, ⋆, some, later, _$_, _∵_, !, qed, by, move, drop, use1, use2, split, join, learn, pick, rewrite, fsplit, fjoin, suffices, frame, await, done}
+use types.Kit.{Given, ‵, raw, _⊛_, ⋆, some, later, _$_, _∵_, !, qed, by, move, drop, use1, use2, split, join, pick, rewrite, fsplit, fjoin, suffices, frame, await, done}
 use types.Part.{whole, sub, look-in}
 use types.Run.{look, init, forget, stop, fld, from, load, of-opd, and-then, no-more, assigns, land, returns, enter, alloc1, alloc0, params1, pass1, pass0, free1, free0}
 use sound.WpLaws.{FmC, fmOf, WpFn-mono}
@@ -30,7 +30,6 @@ use denote.Slice.{sliceVal, ShrSlice, slice-vals, shr-slice-tells, shr-slice-law
 use denote.Steps.{only, owned, peeks, heard, nothing}
 use denote.Struct.Declared.{Declared}
 use denote.Struct.Laws as LL
-use denote.Struct.Rest.{all-own, ownAt, rest, own-open, own-out}
 use denote.Triple.Statement.{Contract, Triple}
 use denote.Triple.Call.{calls-at}
 use denote.Triple.Entry.{onEntry}
@@ -72,7 +71,7 @@ BK κs = K.the-row (namedLft 1 0 tt κs)
 abbrev stayed : Stays (f.ended .signature .params) (f.ended .kept)
 stayed = (stay-none-slice (0 ∷ []) tt (plain (λ _. u32)) yes, (stay-none (λ _. u32) yes, tt))
 
--- what `up` says of its answer
+-- what `Climber::up` says of its answer
 abbrev Rose : Climber → Rise → Type 0
 Rose c r = (r .climber .index ≡ c .index) × (r .climber .rank ≡ r .answer .rank) × (r .answer ≡ climbOneAnswer (now (c .index)) (c .rank))
 
@@ -113,7 +112,7 @@ module _ {M : Type 1} (𝓤 : URA M) (H : Heap 𝓤) (A : Atoms 𝓤) (W : Given
   abbrev Own : Fml
   Own = ShrSlice (named 0) κ u32 .own s (v ∷ [])
 
-  -- the call of `new`
+  -- the call of `Climber::at`
   abbrev to-new : New 𝓤 H A mem run .Ghost
   to-new = (((κ, tt), (q, tt), tt, (s, (n, tt)), at), tt)
 
@@ -126,7 +125,7 @@ module _ {M : Type 1} (𝓤 : URA M) (H : Heap 𝓤) (A : Atoms 𝓤) (W : Given
   new-said : (r : Climber) → ent 𝓤 (ensured 𝓤 H A new.ended (new.clauses 𝓤 H A mem run) (κ, tt) (s, (n, tt)) tt r) (fact 𝓤 (Made s n r))
   new-said r = exE 𝓤 _ (λ ws. snd∗ 𝓤 (sem 𝓤 H A (lasts new.ended (κ, tt) (s, (n, tt)) ws)) (fact 𝓤 (Made s n r)))
 
-  -- the call of `up`, at the climber r with the machine value u
+  -- the call of `Climber::up`, at the climber r with the machine value u
   abbrev to-up : Climber → Val → Up 𝓤 H A mem run .Ghost
   to-up r u = (((κ, tt), (q, tt), tt, (r, tt), (u ∷ [], tt)), tt)
 
@@ -143,8 +142,8 @@ module _ {M : Type 1} (𝓤 : URA M) (H : Heap 𝓤) (A : Atoms 𝓤) (W : Given
       frame ! $ nothing ! $ owned ! u32 (Is u32) (uint-makes 𝓤 H A W w32) n _ (refl, n-fits) $ fjoin ! $ move ! (1 ∷ 0 ∷ []) $ fjoin ! $ frame ! $
       owned ! S.the-row (Is S.the-row) (LL.makes S.the-type S′.the-plain 𝓤 H A) t _ is $ done !
 
-  step-is : (r : Rise) (u : Val) → Is (BK (κ, tt)) r (u ∷ []) → Is S.the-row (r .answer) (S′.lowered (r .answer) ∷ [])
-  step-is r u is = LL.owed D L r _ is .1 .0
+  answer-is : (r : Rise) (u : Val) → Is (BK (κ, tt)) r (u ∷ []) → Is S.the-row (r .answer) (S′.lowered (r .answer) ∷ [])
+  answer-is r u is = LL.owed D L r _ is .1 .0
 
   module _ (C : Calls 𝓤 H) (Λ : Loops 𝓤 H) (fm : FmC 𝓤 H (W .laws) C) (known-new : Triple 𝓤 (C #climber·at) (New 𝓤 H A mem run)) (known-up : Triple 𝓤 (C #climber·up) (Up 𝓤 H A mem run)) where
     walk : Is (ShrSlice (named 0) κ u32) s (v ∷ []) → ent 𝓤 (onEntry 𝓤 H A f.signature (κ, tt) (q, tt) (s, (n, tt)) at) (WpFn 𝓤 H C Λ code.function (v ∷ vint w32 n ∷ []) Post)
@@ -165,10 +164,10 @@ module _ {M : Type 1} (𝓤 : URA M) (H : Heap 𝓤) (A : Atoms 𝓤) (W : Given
         peeks ! (BK (κ, tt)) (Is (BK (κ, tt))) (shows 𝓤 H A (BK (κ, tt))) b (u₂ ∷ []) (λ is₂. drop ! $
         -- [the token; what s owns; _4; …; room for _3; …; _2; …; _1; …; room for _0; …]
         land ! (from ! (stop !)) (init ! 4 refl (LL.lawful (K.the-type αᵉ) (K′.the-laws αᵉ) 𝓤 H A W .typed b _ is₂ .0)) $ rewrite ! 4 (λ (w : Val). ‵ (fat fullShare (K′.mir erased) l₃ 0 w)) (ap only (LL.tells D L b _ is₂)) refl $
-        assigns ! (of-opd ! (load ! (from ! (fld ! refl (stop !))) (look-in ! 4 (sub ! 1 refl (whole !))))) (from ! (stop !)) (init ! 10 refl (LL.lawful S.the-type S′.the-laws 𝓤 H A W .typed (b .answer) _ (step-is b u₂ is₂) .0)) $
+        assigns ! (of-opd ! (load ! (from ! (fld ! refl (stop !))) (look-in ! 4 (sub ! 1 refl (whole !))))) (from ! (stop !)) (init ! 10 refl (LL.lawful S.the-type S′.the-laws 𝓤 H A W .typed (b .answer) _ (answer-is b u₂ is₂) .0)) $
         returns ! (look ! 10 refl) $ forget ! 2 refl $ forget ! 4 refl $ forget ! 6 refl $ forget ! 8 refl $ forget ! 10 refl $
         move ! (10 ∷ 11 ∷ []) $ free1 ! $ move ! (8 ∷ 9 ∷ []) $ free1 ! $ move ! (6 ∷ 7 ∷ []) $ free1 ! $ move ! (4 ∷ 5 ∷ []) $ free1 ! $ move ! (2 ∷ 3 ∷ []) $ free1 ! $ free0 ! $
-        by ! (exits (b .answer) (once s n c b m rb) (step-is b u₂ is₂)))))))))))))))
+        by ! (exits (b .answer) (once s n c b m rb) (answer-is b u₂ is₂)))))))))))))))
 
 module _ {M : Type 1} (𝓤 : URA M) (H : Heap 𝓤) (A : Atoms 𝓤) (W : Given 𝓤 H A) (mem : Memory → SProp 𝓤) (run : Routine → Fun 𝓤) where
   f-walks : (C : Calls 𝓤 H) (Λ : Loops 𝓤 H) → FmC 𝓤 H (W .laws) C → Triple 𝓤 (C #climber·at) (New 𝓤 H A mem run) → Triple 𝓤 (C #climber·up) (Up 𝓤 H A mem run)

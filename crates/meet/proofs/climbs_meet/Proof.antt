@@ -11,7 +11,7 @@ use Rattle.image.specs.Layout.{parentAt}
 use Rattle.climb.specs.Climb.{badClimb}
 use Rattle.climb.specs.ClimbLaws.{stuck-step, stuck-bad}
 use Rattle.meet.specs.Meet.{common}
-use Rattle.meet.specs.MeetLaws.{common-left, common-right, climbs-broken, climbs-met}
+use Rattle.meet.specs.MeetLaws.{first-up, second-up, climbs-broken, climbs-met}
 use Rattle.meet.proofs.climbs_meet.Statement.{statement}
 use Rattle.meet.proofs.climbs_meet.Tie as tie
 use Rattle.meet.proofs.climbs_meet.Reads as reads
@@ -61,7 +61,7 @@ loop-again c =
       omega arith,
       l .loop .inv .2,
       l .loop .inv .3 ∙ stuck-step (S l) (l .loop .y) (omega arith) down ∙ ap (badClimb (S l)) (sym e),
-      l .loop .inv .4 ∙ common-right (S l) (l .loop .x) (l .loop .y) (c .before .before .if1 .taken) down ∙ ap (common (S l) (l .loop .x)) (sym e),
+      l .loop .inv .4 ∙ second-up (S l) (l .loop .x) (l .loop .y) (c .before .before .if1 .taken) down ∙ ap (common (S l) (l .loop .x)) (sym e),
     )
 
 parent-at-requires-2 : tie.Need-parent-at-requires-2 Inv-loop μ-loop
@@ -91,7 +91,7 @@ loop-again-2 c =
       l .loop .inv .1,
       l .loop .inv .2 ∙ stuck-step (S l) (l .loop .x) (omega arith) down ∙ ap (badClimb (S l)) (sym e),
       l .loop .inv .3,
-      l .loop .inv .4 ∙ common-left (S l) (l .loop .x) (l .loop .y) (omega arith) down ∙ ap (λ (k : ℕ). common (S l) k (l .loop .y)) (sym e),
+      l .loop .inv .4 ∙ first-up (S l) (l .loop .x) (l .loop .y) (omega arith) down ∙ ap (λ (k : ℕ). common (S l) k (l .loop .y)) (sym e),
     )
 
 climb-breaks-requires : tie.Need-climb-breaks-requires Inv-loop μ-loop
