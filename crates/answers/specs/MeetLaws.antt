@@ -9,13 +9,12 @@ use lib.Dec.{T}
 use lib.ListN.{length}
 use Rattle.lists.specs.Lists.{_∈_}
 use Rattle.lists.specs.Choice.{firstOf}
-use Rattle.lists.specs.MemberLaws.{filter-in, filter-out}
 use Rattle.image.specs.declared.Body.{Body}
 use Rattle.image.specs.Layout.{parentAt}
 use Rattle.image.specs.ImageLayer.{HoldsImage}
 use Rattle.spans.specs.Spans.{rankRefusal}
 use Rattle.spans.specs.HeldLaws.{noRank}
-use Rattle.climb.specs.Climb.{chain, badClimb}
+use Rattle.climb.specs.Climb.{badClimb}
 use Rattle.climber.specs.Climber.{climbOneAnswer}
 use Rattle.climber.specs.ClimberLaws.{one-refused, one-root, one-up}
 use Rattle.meet.specs.Meet.{common, refused, meetingOf, meetAnswer}
@@ -23,28 +22,15 @@ use Rattle.meet.specs.MeetLaws.{metAt, meets-at, meets-nowhere, common-in, comm
 use Rattle.meet.specs.PassingLaws.{meeting}
 use Rattle.meet.specs.AcceptedLaws.{apart-by-roots}
 use Rattle.meet.specs.declared.Meeting.{Meeting}
-use Rattle.forest.specs.Nodes.{begins, commonBeginning, lastNode, falling, rankOf, nodeAt, beginnings, aboveRank, meetingRank}
+use Rattle.forest.specs.Nodes.{begins, commonBeginning, lastNode, rankOf, nodeAt, beginnings, aboveRank, meetingRank}
 use Rattle.forest.specs.BeginningLaws.{begins-trans, common-begins-first, common-begins-second, begins-common}
 use Rattle.forest.specs.ForestLaws.{Forest, Closed, LastBeginning, no-node, last-node, last-beginning, RootNode, ChildNode, ranked, within-interval, node-in, node-rank, no-rank, closed-meeting}
 use Rattle.answers.specs.Answers.{First, applies, otherwise, noOther, NoRank, NodesMeet, ClimbsOne, MeetsAtCommonBeginning}
 use Rattle.answers.specs.DescribedLaws.{Described, same-length, parent-here, described-accepted}
 use Rattle.answers.specs.AnswerLaws.{rank-test, has-rank, rank-refused}
-use Rattle.answers.specs.RankLaws.{falling-out, falling-in}
-use Rattle.answers.specs.ClimbLaws.{chain-here, climb-goes}
+use Rattle.answers.specs.ClimbLaws.{met-begins, begins-met, climb-goes}
 
 module _ {W : List (List ℕ)} (g : Forest W) {bs : List Body} (b : Described W bs) (short : (p : List ℕ) → p ∈ W → length p < 65536) (small : length W ≤ 65535) {s : List ℕ} (h : HoldsImage s bs) where
-  -- ---- a climb meets the nodes that its node begins with
-
-  chain-out : (rank : ℕ) → 1 ≤ rank → rank ≤ length W → (x : ℕ) → x ∈ chain s rank → (1 ≤ x) × (x ≤ length W) × T (begins (nodeAt W x) (nodeAt W rank))
-  chain-out rank low high x m =
-      let o = filter-out (λ k. begins (nodeAt W k) (nodeAt W rank)) (falling (length W)) x (subst (λ l. x ∈ l) (chain-here g b short small h rank low high) m) in
-      let i = falling-out (length W) x (o .0) in
-      (i .0, i .1, o .1)
-
-  chain-in : (rank : ℕ) → 1 ≤ rank → rank ≤ length W → (x : ℕ) → 1 ≤ x → x ≤ length W → T (begins (nodeAt W x) (nodeAt W rank)) → x ∈ chain s rank
-  chain-in rank low high x i j t =
-      subst (λ l. x ∈ l) (sym (chain-here g b short small h rank low high)) (filter-in (λ k. begins (nodeAt W k) (nodeAt W rank)) (falling (length W)) x (falling-in (length W) x i j) t)
-
   -- ---- two nodes
 
   module _ (a c : ℕ) (a-low : 1 ≤ a) (a-high : a ≤ length W) (c-low : 1 ≤ c) (c-high : c ≤ length W) where
@@ -54,13 +40,13 @@ module _ {W : List (List ℕ)} (g : Forest W) {bs : List Body} (b : Described W 
     both-out : (x : ℕ) → x ∈ common s a c → (1 ≤ x) × (x ≤ length W) × T (begins (nodeAt W x) both)
     both-out x m =
         let o = common-out s a c x m in
-        let i = chain-out a a-low a-high x (o .0) in
-        (i .0, i .1, begins-common (nodeAt W x) (nodeAt W a) (nodeAt W c) (i .2) (chain-out c c-low c-high x (o .1) .2))
+        let i = met-begins g b short small h a a-low a-high x (o .0) in
+        (i .0, i .1, begins-common (nodeAt W x) (nodeAt W a) (nodeAt W c) (i .2) (met-begins g b short small h c c-low c-high x (o .1) .2))
 
     both-in : (x : ℕ) → 1 ≤ x → x ≤ length W → T (begins (nodeAt W x) both) → x ∈ common s a c
     both-in x i j t =
-        common-in s a c x (chain-in a a-low a-high x i j (begins-trans (nodeAt W x) both (nodeAt W a) t (common-begins-first (nodeAt W a) (nodeAt W c))))
-        (chain-in c c-low c-high x i j (begins-trans (nodeAt W x) both (nodeAt W c) t (common-begins-second (nodeAt W a) (nodeAt W c))))
+        common-in s a c x (begins-met g b short small h a a-low a-high x i j (begins-trans (nodeAt W x) both (nodeAt W a) t (common-begins-first (nodeAt W a) (nodeAt W c))))
+        (begins-met g b short small h c c-low c-high x i j (begins-trans (nodeAt W x) both (nodeAt W c) t (common-begins-second (nodeAt W a) (nodeAt W c))))
 
     -- they meet at the longest node that both begin with, or there is none
     place : ((meetingOf (common s a c) ≡ metAt (meetingRank W a c)) × (1 ≤ meetingRank W a c)) ⊎ ((meetingOf (common s a c) ≡ refused 0) × (meetingRank W a c ≡ 0))

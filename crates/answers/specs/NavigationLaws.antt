@@ -17,14 +17,13 @@ use Rattle.image.specs.ImageLayer.{HoldsImage}
 use Rattle.rank_filter.specs.Distances.{within, distance}
 use Rattle.climb.specs.Climb.{chain, ancestorList, ancestorsAnswer}
 use Rattle.sums.specs.HeldLaws.{HoldsTotals}
-use Rattle.forest.specs.Nodes.{nodeAt, begins, falling, init, beginnings}
+use Rattle.forest.specs.Nodes.{nodeAt, init, beginnings}
 use Rattle.forest.specs.ForestLaws.{Forest, Closed}
 use Rattle.forest.specs.BeginningLaws.{begins-length}
 use Rattle.answers.specs.Answers.{First, applies, otherwise, Navigation, DistancesAtMostZero, LinksByLevel, LinksByBeginnings}
 use Rattle.answers.specs.DescribedLaws.{Described, level-here}
 use Rattle.answers.specs.AnswerLaws.{has-rank, descendants-here, siblings-here, siblings-by-hops-here, subtree-sum-here}
-use Rattle.answers.specs.RankLaws.{falling-out}
-use Rattle.answers.specs.ClimbLaws.{shorter-count, closed-links, chain-here, ancestors-here}
+use Rattle.answers.specs.ClimbLaws.{shorter-count, closed-links, met-begins, ancestors-here}
 use Rattle.answers.specs.MeetLaws.{meetings-here, climbers-here}
 use Rattle.answers.specs.PathSumLaws.{path-sum-here}
 
@@ -66,9 +65,8 @@ module _ {W : List (List ℕ)} (g : Forest W) {bs : List Body} (b : Described W 
     distance-here : (k : ℕ) → k ∈ ancestorList s rank lower upper → distance s rank k ≤ℤ pos 0
     distance-here k m =
         let c = filter-out (λ k. within lower upper (distance s rank k)) (chain s rank) k m .0 in
-        let o = filter-out (λ i. begins (nodeAt W i) (nodeAt W rank)) (falling (length W)) k (subst (λ l. k ∈ l) (chain-here g b short small h rank (in-list .0) (in-list .1)) c) in
-        let i = falling-out (length W) k (o .0) in
-        at-most-zero (levelAt s k) (levelAt s rank) (omega (arith, level, level-here g b short h k (i .0) (i .1), begins-length (nodeAt W k) (nodeAt W rank) (o .1)))
+        let o = met-begins g b short small h rank (in-list .0) (in-list .1) k c in
+        at-most-zero (levelAt s k) (levelAt s rank) (omega (arith, level, level-here g b short h k (o .0) (o .1), begins-length (nodeAt W k) (nodeAt W rank) (o .2)))
 
     links-here : Closed W → ancestorsAnswer s rank lower upper out .links ≡ levelAt s rank - 1
     links-here closed = omega (arith, ancestors-here g b short small h rank lower upper out .accepted z, closed-links g closed rank (in-list .0) (in-list .1), level)

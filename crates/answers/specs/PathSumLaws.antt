@@ -13,7 +13,7 @@ use lib.Signed.{mag}
 use borrow.Author.Tests.{le-ltb}
 use Rattle.lists.specs.Choice.{firstOf}
 use Rattle.lists.specs.Lists.{_∈_, any, sum}
-use Rattle.lists.specs.MemberLaws.{is-false, any-out, sum-agree, sum-slice, filter-out}
+use Rattle.lists.specs.MemberLaws.{is-false, any-out, sum-agree, sum-slice}
 use Rattle.image.specs.declared.Body.{Body}
 use Rattle.image.specs.Layout.{bodyOf}
 use Rattle.image.specs.ImageLayer.{HoldsImage}
@@ -22,13 +22,13 @@ use Rattle.spans.specs.HeldLaws.{noRank}
 use Rattle.climb.specs.Climb.{chain}
 use Rattle.sums.specs.Sums.{totalAt, leaves32, ownMinutes, badTotals, badOwn, badPath, pathSum, sumAnswer, pathAnswer}
 use Rattle.sums.specs.HeldLaws.{HoldsTotals, total-is, total-near, totals-held}
-use Rattle.forest.specs.Nodes.{nodeAt, begins, beginnings, falling}
+use Rattle.forest.specs.Nodes.{nodeAt, begins, beginnings}
 use Rattle.forest.specs.ForestLaws.{Forest, node-in}
 use Rattle.answers.specs.Answers.{applies, otherwise, NoRank, PathSum}
 use Rattle.answers.specs.DescribedLaws.{Described, same-length, sized}
 use Rattle.answers.specs.AnswerLaws.{rank-test, has-rank, rank-refused}
-use Rattle.answers.specs.RankLaws.{falling-out, sum-ranks}
-use Rattle.answers.specs.ClimbLaws.{climb-goes, chain-here}
+use Rattle.answers.specs.RankLaws.{sum-ranks}
+use Rattle.answers.specs.ClimbLaws.{climb-goes, met-begins, chain-here}
 
 -- minutes of 32 bits don't leave i32
 small-stays : (z : ℤ) → mag z < 2147483648 → leaves32 z ≡ false
@@ -59,7 +59,7 @@ module _ {W : List (List ℕ)} (g : Forest W) {bs : List Body} (b : Described W 
   module _ (rank : ℕ) (low : 1 ≤ rank) (high : rank ≤ length W) where
     -- a rank of the climb
     met : (r : ℕ) → r ∈ chain s rank → (1 ≤ r) × (r ≤ length W)
-    met r m = falling-out (length W) r (filter-out (λ i. begins (nodeAt W i) (nodeAt W rank)) (falling (length W)) r (subst (λ l. r ∈ l) (chain-here g b short small h rank low high) m) .0)
+    met r m = let o = met-begins g b short small h rank low high r m in (o .0, o .1)
 
     path-fine : badPath s t rank ≡ false
     path-fine =

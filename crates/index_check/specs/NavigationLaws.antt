@@ -17,6 +17,7 @@ use Rattle.lists.specs.RangeLaws.{limits-negate}
 use Rattle.lists.specs.SignedLaws.{mag-sub}
 use Rattle.image.specs.Layout.{nodeCount, sizeAt, parentAt, rootAt, levelAt}
 use Rattle.spans.specs.Spans.{badRank, badSpan, endOf, spanRefusal}
+use Rattle.spans.specs.UnrefusedLaws.{rank-there}
 use Rattle.rank_filter.specs.Distances.{within, distance}
 use Rattle.navigate.specs.Navigate.{descendantList}
 use Rattle.climb.specs.Climb.{chain, badClimb, climbRefusal, ancestorList, ancestorsAnswer}
@@ -62,8 +63,7 @@ module _ (s : List ℕ) (accepted : accepts s ≡ true) where
 
   module _ (k : ℕ) (low : 1 ≤ k) (high : k ≤ nodeCount s) where
     rank-good : badRank s k ≡ false
-    unfolding badRank
-    rank-good = simp (ne-eqb k 0 (λ e. omega arith), le-ltb (nodeCount s) k high)
+    rank-good = rank-there s k low high
 
     span-good : badSpan s k ≡ false
     unfolding badSpan

@@ -6,12 +6,12 @@ use mathlib.Core.List.{List}
 use Prim.Native.Nat.{ℕ, zero, suc, _≤_, _<_}
 use native.Mathlib.Omega.{arith}
 use native.Mathlib.Decide.{ℕ-discrete}
-use borrow.Author.Tests.{le-ltb, eq-eqb, ne-eqb}
+use borrow.Author.Tests.{eq-eqb, ne-eqb}
 use Rattle.lists.specs.Lists.{_∈_}
 use Rattle.lists.specs.ChoiceLaws.{or-no, cond-none, first-zero}
-use Rattle.image.specs.Layout.{nodeCount, parentAt, badContents}
-use Rattle.spans.specs.Spans.{badRank, rankRefusal}
-use Rattle.spans.specs.UnrefusedLaws.{Ranked, ranked}
+use Rattle.image.specs.Layout.{parentAt, badContents}
+use Rattle.spans.specs.Spans.{rankRefusal}
+use Rattle.spans.specs.UnrefusedLaws.{Ranked, ranked, rank-there}
 use Rattle.climb.specs.Climb.{chain, badClimb}
 use Rattle.climb.specs.ClimbLaws.{chain-step, chain-done, stuck-step, goes-down}
 use Rattle.climber.specs.Climber.{answer, climbOneAnswer, comesTo, Passes}
@@ -22,10 +22,7 @@ use Rattle.meet.specs.MeetLaws.{metAt, Answered, met, apart, answered, c
 
 -- a lower rank than one that the index has
 lower-rank : (s : List ℕ) (k j : ℕ) → rankRefusal s k ≡ 0 → 0 < j → j ≤ k → rankRefusal s j ≡ 0
-unfolding badRank
-lower-rank s k j e low h =
-    let g = cond-none (badContents s) 13 _ (omega arith) e .0 in
-    simp (g, ne-eqb j 0 (λ z. omega arith), le-ltb (nodeCount s) j (omega (arith, ranked s k e .high)))
+lower-rank s k j e low h = simp (cond-none (badContents s) 13 _ (omega arith) e .0, rank-there s j (omega arith) (omega (arith, ranked s k e .high)))
 
 -- ---- a climber
 

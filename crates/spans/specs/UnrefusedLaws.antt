@@ -1,10 +1,11 @@
--- What a rank and a span that are not refused give. Assumes nothing.
+-- What a rank and a span that are not refused give; that a rank of the index isn't refused. Assumes nothing.
 use mathlib.Core.Path.{_≡_}
+use mathlib.Core.Bool.{false}
 use mathlib.Core.List.{List}
 use Prim.Native.Nat.{ℕ, _≤_}
 use native.Mathlib.Omega.{arith}
 use lib.Dec.{eqb}
-use borrow.Author.Tests.{ltb-false, eqb-false}
+use borrow.Author.Tests.{ltb-false, le-ltb, eqb-false, ne-eqb}
 use Rattle.lists.specs.ChoiceLaws.{or-no, cond-none}
 use Rattle.image.specs.Layout.{nodeCount, sizeAt, badContents}
 use Rattle.image.specs.ImageLaws.{Contents, contents}
@@ -23,6 +24,11 @@ ranked s rank e =
     let r = or-no (eqb rank 0) _ (e2 .0) in
     let n0 = eqb-false rank 0 (r .0) in
     record { held = contents s (e1 .0); low = omega arith; high = ltb-false _ _ (r .1) }
+
+-- the index has the rank
+pub rank-there : (s : List ℕ) (rank : ℕ) → 1 ≤ rank → rank ≤ nodeCount s → badRank s rank ≡ false
+unfolding badRank
+rank-there s rank low high = simp (ne-eqb rank 0 (λ e. omega arith), le-ltb (nodeCount s) rank high)
 
 pub record Span (s : List ℕ) (rank : ℕ) : Type 0 where
   pub held : Contents s
