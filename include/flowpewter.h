@@ -53,8 +53,8 @@ extern "C" {
  * after 6 and before 7.
  *
  * A refused edit returns the board it got. A refused build zeroes its slices, the days of a dated one too, and its two
- * counts. A refused navigation or sum writes nothing and returns counts and sums of 0. A refused replay writes nothing
- * and returns no calls and the empty board. */
+ * counts. A refused navigation or sum writes nothing and returns counts and sums of 0; a refused meeting isn't found,
+ * and a refused climber stays. A refused replay writes nothing and returns no calls and the empty board. */
 enum {
     FLOWPEWTER_REFUSED_UNSOUND_BOARD = 1,      /* the board isn't sound: see flowpewter_sound */
     FLOWPEWTER_REFUSED_NUMERAL_ZERO = 2,       /* an added row has numeral 0 */
@@ -79,7 +79,7 @@ enum {
     FLOWPEWTER_REFUSED_NO_INDEX = 13,          /* the index has under 8 words, word 1 isn't 8, word 2 isn't 6, word 0 is
                                                   over 65,535 or more nodes than fit, or a sum gets fewer totals than
                                                   nodes and one more */
-    FLOWPEWTER_REFUSED_NO_SUCH_RANK = 14,      /* the rank is 0 or above the number of nodes */
+    FLOWPEWTER_REFUSED_NO_SUCH_RANK = 14,      /* a rank is 0 or above the number of nodes */
     FLOWPEWTER_REFUSED_DAMAGED_INDEX = 15,     /* a span, descendants or subtree sum is of a node with size 0 or an end
                                                   above the number of nodes; a way up meets a parent rank that isn't
                                                   below its own; siblings by hops meet a size of 0, or their parent
@@ -390,6 +390,18 @@ typedef struct flowpewter_hopped {
     size_t hops; /* one for each rank listed: where flowpewter_index_check accepts the index, the number of siblings */
 } flowpewter_hopped;
 
+typedef struct flowpewter_meeting {
+    uint32_t refusal;
+    bool found;    /* false where there is no such rank, and if refused */
+    uint32_t rank; /* 0 where it isn't found */
+} flowpewter_meeting;
+
+typedef struct flowpewter_climbed_one {
+    uint32_t refusal;
+    bool root;     /* whether the climber is at a root, where it stays */
+    uint32_t rank; /* where the climber has come to, the parent; at a root, or if refused, the rank it was at */
+} flowpewter_climbed_one;
+
 typedef struct flowpewter_summed {
     uint32_t refusal;
     int64_t sum;
@@ -422,6 +434,23 @@ flowpewter_listed flowpewter_siblings(const uint32_t *index, size_t index_len, u
  * the node itself may be missing. */
 flowpewter_hopped flowpewter_siblings_by_hops(const uint32_t *index, size_t index_len, uint32_t rank, uint32_t *out,
                                               size_t out_len);
+
+/* Where two nodes meet: the smallest assembly that holds both parts, for the caption of a leader that joins them. Of
+ * all ranks that are ancestors of both nodes, themselves included, it is the largest; none is found exactly where there
+ * is no such rank. The two may be the same, or one above the other, in either order. The time is that of the two
+ * climbs, however large the index is. Both run to rank 0: above the meeting place, too, a parent rank that isn't below
+ * its own is refused. 13, 14, 15.
+ *
+ * On every built index the answer is the longest common beginning of the two nodes' paths that is a node, and there is
+ * none exactly where their root ranks differ. */
+flowpewter_meeting flowpewter_meet(const uint32_t *index, size_t index_len, uint32_t a, uint32_t b);
+
+/* One call of a climber: from a rank up to its parent. The caller keeps the index and the rank, and passes the answered
+ * rank to the next call. At a root the climber says so and stays; a refused one stays, too. Only the link that it
+ * follows is judged, none further up. 13, 14, 15.
+ *
+ * Where two nodes meet, a climber from either comes through the rank that flowpewter_meet answers, or starts there. */
+flowpewter_climbed_one flowpewter_climb(const uint32_t *index, size_t index_len, uint32_t rank);
 
 /* The minutes of the node and all nodes below it. 13, 14, 15. */
 flowpewter_summed flowpewter_subtree_sum(const uint32_t *index, size_t index_len, const int64_t *totals,

@@ -155,6 +155,10 @@ static void navigation_of_nothing(void) {
     refused("ancestors", flowpewter_ancestors(NULL, 0, 1, 0, 9, NULL, 0).refusal, no_index);
     refused("siblings", flowpewter_siblings(NULL, 0, 1, NULL, 0).refusal, no_index);
     refused("siblings by hops", flowpewter_siblings_by_hops(NULL, 0, 1, NULL, 0).refusal, no_index);
+    const flowpewter_meeting meeting = flowpewter_meet(NULL, 0, 1, 2);
+    expect("meet", meeting.refusal == no_index && !meeting.found && meeting.rank == 0);
+    const flowpewter_climbed_one climber = flowpewter_climb(NULL, 0, 2);
+    expect("climb", climber.refusal == no_index && !climber.root && climber.rank == 2);
     refused("subtree sum", flowpewter_subtree_sum(NULL, 0, NULL, 0, 1).refusal, no_index);
     refused("path sum", flowpewter_path_sum(NULL, 0, NULL, 0, 1).refusal, no_index);
     refused("subtree sum of no totals", flowpewter_subtree_sum(words, WORDS, NULL, 0, 1).refusal, no_index);

@@ -53,6 +53,14 @@ static void structs(void) {
     FIELD(hopped, refusal);
     FIELD(hopped, len);
     FIELD(hopped, hops);
+    STRUCT(meeting);
+    FIELD(meeting, refusal);
+    FIELD(meeting, found);
+    FIELD(meeting, rank);
+    STRUCT(climbed_one);
+    FIELD(climbed_one, refusal);
+    FIELD(climbed_one, root);
+    FIELD(climbed_one, rank);
     STRUCT(summed);
     FIELD(summed, refusal);
     FIELD(summed, sum);

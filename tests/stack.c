@@ -155,6 +155,18 @@ static void siblings_by_hops(void) {
     answer = (int64_t)found.hops;
 }
 
+static void meet(void) {
+    flowpewter_meeting found = flowpewter_meet(words, WORDS, NODES / 2, NODES);
+    refusal = found.refusal;
+    answer = found.rank;
+}
+
+static void climb(void) {
+    flowpewter_climbed_one found = flowpewter_climb(words, WORDS, NODES);
+    refusal = found.refusal;
+    answer = found.rank;
+}
+
 static void subtree_sum(void) {
     flowpewter_summed found = flowpewter_subtree_sum(words, WORDS, totals, TOTALS, 1);
     refusal = found.refusal;
@@ -194,6 +206,8 @@ static const struct job {
     {"ancestors", ancestors, 0, NODES - 1},
     {"siblings", siblings, 0, 1},
     {"siblings_by_hops", siblings_by_hops, 0, 1},
+    {"meet", meet, 0, NODES / 2},
+    {"climb", climb, 0, NODES - 1},
     {"subtree_sum", subtree_sum, 0, NODES},
     {"path_sum", path_sum, 0, NODES},
     {"index_check", index_check, 0, 1},

@@ -2,8 +2,8 @@
 
 use differential::edits::row;
 use flowpewter::{
-    build, build_dated_with_code, build_levelled, build_shortest, build_with_code, Board, Days,
-    Options, Refusal,
+    build, build_dated_with_code, build_levelled, build_shortest, build_with_code, Board, Climber,
+    Days, Options, Refusal,
 };
 use guide::{DatedImage, Engine, Image};
 use reference::{Asked, Row, Start};
@@ -130,6 +130,14 @@ impl Engine for Library {
         let mut list = vec![0; NODES];
         let found = flowpewter::siblings_by_hops(index, rank, &mut list);
         found.map(|found| (found.ranks.to_vec(), found.hops as u32)).map_err(number)
+    }
+
+    fn meet(&self, index: &[u32], a: u32, b: u32) -> Result<Option<u32>, u32> {
+        flowpewter::meet(index, a, b).map_err(number)
+    }
+
+    fn climb(&self, index: &[u32], rank: u32) -> Result<Option<u32>, u32> {
+        Climber::new(index, rank).next().transpose().map_err(number)
     }
 
     fn span(&self, index: &[u32], rank: u32) -> Result<Vec<u32>, u32> {

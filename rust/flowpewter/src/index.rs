@@ -224,6 +224,42 @@ pub fn siblings_by_hops<'a>(
     Ok(SiblingsByHops { ranks: &list[..hopped.len], hops: hopped.hops })
 }
 
+/// Where two nodes meet: the smallest assembly that holds both parts, for the caption of a leader that joins them. Of all
+/// ranks that are ancestors of both nodes, themselves included, it is the largest; none exactly where there is no such rank.
+/// The two may be the same, or one above the other, in either order. The time is that of the two climbs, however large the
+/// index is. Both run to rank 0: above the meeting place, too, a parent rank that isn't below its own is refused. Refused
+/// with 13, 14 or 15.
+///
+/// On every built index the answer is the longest common beginning of the two nodes' paths that is a node, and there is none
+/// exactly where their root ranks differ. A [`Climber`](crate::Climber) from either comes through the answer, or starts there.
+///
+/// ```
+/// use flowpewter::{meet, Refusal};
+///
+/// // Numeral 10 with 20 and 30 below it, 40 below 20; and numeral 50, of no assembly.
+/// let mut index = [
+///     5, 8, 6, 196, 0, 0, 0, 0,
+///     10, 1, 4, 0, 1, 1,
+///     20, 2, 2, 1, 1, 2,
+///     40, 4, 1, 2, 1, 3,
+///     30, 3, 1, 1, 1, 2,
+///     50, 5, 1, 0, 5, 1,
+/// ];
+/// assert_eq!(meet(&index, 3, 4)?, Some(1));
+/// assert_eq!(meet(&index, 3, 2)?, Some(2));
+/// assert_eq!(meet(&index, 3, 5)?, None);
+///
+/// // 10 is its own parent: 40 and 20 meet below it, and the climbs go on.
+/// index[11] = 1;
+/// assert_eq!(meet(&index, 3, 2), Err(Refusal::DamagedIndex));
+/// # Ok::<(), flowpewter::Refusal>(())
+/// ```
+pub fn meet(index: &[u32], a: u32, b: u32) -> Result<Option<u32>, Refusal> {
+    let meeting = sys::meet(index, a, b);
+    Refusal::check(meeting.refusal)?;
+    Ok(meeting.found.then_some(meeting.rank))
+}
+
 /// The minutes of a node and all nodes below it. Refused with 13, 14 or 15.
 ///
 /// ```

@@ -7,6 +7,7 @@
 //! * [`build_shortest`]: each numeral of a board once, as close to a start row as it can stand, as such an index.
 //! * [`build_levelled`]: the forest of a levelled list, whose columns are levels, as such an index.
 //! * [`span`], [`descendants`], [`ancestors`], [`siblings`], [`siblings_by_hops`]: navigation by rank.
+//! * [`meet`]: the smallest assembly that holds two parts. [`Climber`]: the way up from a node, parent by parent.
 //! * [`subtree_sum`], [`path_sum`]: minutes below a node and on the way up from it.
 //! * [`index_check`]: whether a slice from anywhere is an index.
 //! * [`replay`]: a list of edits as words.
@@ -20,6 +21,7 @@
 
 mod board;
 mod build;
+mod climber;
 mod dated;
 mod days;
 mod index;
@@ -32,12 +34,13 @@ pub use board::{
     replay, Board, Call, Entry, Row, CALL_WORDS, JOURNAL_PLACES, MAX_KEPT, MAX_ROWS, MAX_UNDONE,
 };
 pub use build::{build, build_with_code, Built, Cycle, Multi, Options, Orphan, Start};
+pub use climber::{Climber, Up};
 pub use dated::{build_dated, build_dated_with_code, days_len, node_days};
 pub use days::{Days, LAST_DAY};
 pub use index::{
-    ancestors, bodies, descendants, index_check, index_len, path_sum, siblings, siblings_by_hops,
-    span, subtree_sum, totals_len, Ancestors, Body, SiblingsByHops, BODY, CLOSING_BIT, CONTENTS,
-    LEVEL_MASK, MAX_NODES, ORPHAN_BIT,
+    ancestors, bodies, descendants, index_check, index_len, meet, path_sum, siblings,
+    siblings_by_hops, span, subtree_sum, totals_len, Ancestors, Body, SiblingsByHops, BODY,
+    CLOSING_BIT, CONTENTS, LEVEL_MASK, MAX_NODES, ORPHAN_BIT,
 };
 pub use levelled::{build_levelled, MAX_LINES, MAX_WIDTH};
 pub use refusal::{Refusal, REFUSALS};

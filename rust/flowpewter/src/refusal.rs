@@ -9,7 +9,8 @@ use std::fmt;
 /// before 7.
 ///
 /// A refused edit leaves the board as it was, a refused build zeroes its slices, a refused navigation, sum or replay
-/// writes nothing. The names and numbers are those of the C header, `FLOWPEWTER_REFUSED_UNSOUND_BOARD` and so on.
+/// writes nothing, and a refused climber stays. The names and numbers are those of the C header,
+/// `FLOWPEWTER_REFUSED_UNSOUND_BOARD` and so on.
 ///
 /// ```
 /// use flowpewter::{Board, Refusal, Row};
@@ -49,7 +50,7 @@ pub enum Refusal {
     UnreachedRow = 12,
     /// The slice has no table of contents that fits it, or a sum gets too few totals.
     NoIndex = 13,
-    /// The rank is 0 or above the number of nodes.
+    /// A rank is 0 or above the number of nodes.
     NoSuchRank = 14,
     /// The words of the index or the totals contradict themselves.
     DamagedIndex = 15,

@@ -69,6 +69,25 @@ pub struct Hopped {
     pub hops: usize,
 }
 
+/// Where two nodes meet; not found and rank 0 where they don't, and if refused.
+#[repr(C)]
+#[derive(Clone, Copy, Debug, PartialEq, Eq)]
+pub struct Meeting {
+    pub refusal: u32,
+    pub found: bool,
+    pub rank: u32,
+}
+
+/// What a climber's call answers: whether it is at a root, and the rank come to; at a root, or if refused, the rank it was
+/// at.
+#[repr(C)]
+#[derive(Clone, Copy, Debug, PartialEq, Eq)]
+pub struct ClimbedOne {
+    pub refusal: u32,
+    pub root: bool,
+    pub rank: u32,
+}
+
 /// What a call that sums minutes answers.
 #[repr(C)]
 #[derive(Clone, Copy, Debug, PartialEq, Eq)]
@@ -180,6 +199,8 @@ extern "C" {
         out: *mut u32,
         out_len: usize,
     ) -> Hopped;
+    fn flowpewter_meet(index: *const u32, index_len: usize, a: u32, b: u32) -> Meeting;
+    fn flowpewter_climb(index: *const u32, index_len: usize, rank: u32) -> ClimbedOne;
     fn flowpewter_subtree_sum(
         index: *const u32,
         index_len: usize,
@@ -370,6 +391,15 @@ pub fn siblings_by_hops(index: &[u32], rank: u32, out: &mut [u32]) -> Hopped {
     unsafe {
         flowpewter_siblings_by_hops(index.as_ptr(), index.len(), rank, out.as_mut_ptr(), out.len())
     }
+}
+
+pub fn meet(index: &[u32], a: u32, b: u32) -> Meeting {
+    unsafe { flowpewter_meet(index.as_ptr(), index.len(), a, b) }
+}
+
+/// The caller keeps the rank, and passes the answered one to the next call.
+pub fn climb(index: &[u32], rank: u32) -> ClimbedOne {
+    unsafe { flowpewter_climb(index.as_ptr(), index.len(), rank) }
 }
 
 pub fn subtree_sum(index: &[u32], totals: &[i64], rank: u32) -> Summed {

@@ -1,6 +1,8 @@
 //! Prints size, alignment and field offsets of each struct, and each constant; `tests/layout.c` prints the header's.
 
-use flowpewter::sys::{self, Climbed, Edited, Hopped, Listed, Replayed, Span, Summed};
+use flowpewter::sys::{
+    self, Climbed, ClimbedOne, Edited, Hopped, Listed, Meeting, Replayed, Span, Summed,
+};
 use flowpewter::*;
 use std::mem::{align_of, offset_of, size_of};
 
@@ -26,6 +28,8 @@ fn main() {
     layout!("listed", Listed, refusal len);
     layout!("climbed", Climbed, refusal len links);
     layout!("hopped", Hopped, refusal len hops);
+    layout!("meeting", Meeting, refusal found rank);
+    layout!("climbed_one", ClimbedOne, refusal root rank);
     layout!("summed", Summed, refusal sum);
     constants!(MAX_ROWS MAX_KEPT MAX_UNDONE JOURNAL_PLACES LAST_DAY MAX_WIDTH MAX_LINES);
     constants!(MAX_NODES CONTENTS BODY LEVEL_MASK CLOSING_BIT ORPHAN_BIT CALL_WORDS);
