@@ -7,7 +7,7 @@
 //! gives all tree sizes backwards and all ranks forwards, without a walk. The lines of a levelled list are sorted as
 //! arrays of their width, and each is compared with the one before. Nothing is allocated.
 
-use flowpewter::sys::{Built, Edited, Hopped, Listed};
+use flowpewter::sys::{Built, ClimbedOne, Edited, Hopped, Listed, Meeting};
 use flowpewter::{
     Board, Days, Entry, Row, BODY, CLOSING_BIT, CONTENTS, LEVEL_MASK, MAX_KEPT, MAX_LINES,
     MAX_NODES, MAX_ROWS, MAX_UNDONE, ORPHAN_BIT,
@@ -1013,6 +1013,56 @@ pub fn siblings_by_hops(index: &[u32], rank: u32, out: &mut [u32]) -> Hopped {
         at += size(at);
     }
     Hopped { refusal: 0, len, hops: len }
+}
+
+/// The parent rank, or none where it isn't below the rank's own.
+fn link(bodies: &[u32], rank: u32) -> Option<u32> {
+    let parent = bodies[BODY * (rank as usize - 1) + 3];
+    (parent < rank).then_some(parent)
+}
+
+/// The larger of two ranks goes up until they are equal, 0 where they don't meet; then the rest of the climb is judged.
+fn climbs_meet(bodies: &[u32], a: u32, b: u32) -> Option<u32> {
+    let (mut x, mut y) = (a, b);
+    while x != y {
+        if x < y {
+            y = link(bodies, y)?;
+        } else {
+            x = link(bodies, x)?;
+        }
+    }
+    let mut at = x;
+    while at != 0 {
+        at = link(bodies, at)?;
+    }
+    Some(x)
+}
+
+#[inline(never)]
+pub fn meet(index: &[u32], a: u32, b: u32) -> Meeting {
+    let refused = |refusal| Meeting { refusal, found: false, rank: 0 };
+    let Some((n, bodies)) = contents(index) else { return refused(13) };
+    if a == 0 || b == 0 || a.max(b) as usize > n {
+        return refused(14);
+    }
+    match climbs_meet(bodies, a, b) {
+        None => refused(15),
+        Some(rank) => Meeting { refusal: 0, found: rank != 0, rank },
+    }
+}
+
+#[inline(never)]
+pub fn climb(index: &[u32], rank: u32) -> ClimbedOne {
+    let stay = |refusal, root| ClimbedOne { refusal, root, rank };
+    let Some((n, bodies)) = contents(index) else { return stay(13, false) };
+    if rank == 0 || rank as usize > n {
+        return stay(14, false);
+    }
+    match link(bodies, rank) {
+        None => stay(15, false),
+        Some(0) => stay(0, true),
+        Some(parent) => ClimbedOne { refusal: 0, root: false, rank: parent },
+    }
 }
 
 #[inline(never)]

@@ -2,8 +2,10 @@
 
 use crate::baseline;
 use crate::tally::Tally;
-use flowpewter::sys::{self, Hopped, Listed};
-use generate::{hop_case, hops, index, navigation_case, NavigationCase, Random};
+use flowpewter::sys::{self, ClimbedOne, Hopped, Listed, Meeting};
+use flowpewter::{Climber, Refusal, Up};
+use generate::meetings::{self, Climb};
+use generate::{hop_case, hops, index, meeting_case, navigation_case, NavigationCase, Random};
 use reference::navigation::node_count;
 use reference::{Body, BODY, CONTENTS};
 
@@ -23,6 +25,25 @@ pub fn hop_calls(random: &mut Random, tally: &mut Tally) {
         0 => tally.reach_all(hops::FACTS, hops::facts(&case, ranks)),
         15 => tally.reach_all(hops::REFUSALS, hops::refusals(&case)),
         _ => {}
+    }
+}
+
+/// The meeting on one case of damage around it, and a climber from each node until it stays and two calls more, which
+/// passes through where they meet; counts what they come to.
+pub fn meeting_calls(random: &mut Random, tally: &mut Tally) {
+    let case = meeting_case(random);
+    let index = &case.index[..];
+    let meeting = compare_meeting(index, case.a, case.b, tally);
+    match meeting.refusal {
+        0 => tally.reach_all(meetings::FACTS, meetings::facts(&case)),
+        _ => tally.reach_all(meetings::REFUSALS, meetings::refusals(&case)),
+    }
+    for rank in [case.a, case.b] {
+        let climb = meetings::climb(index, rank);
+        tally.reach_all(meetings::CLIMBS, meetings::climbs(&climb));
+        compare_climber(index, rank, climb.ranks.len() + 2, tally);
+        compare_iterator(index, &climb);
+        assert!(!meeting.found || climb.ranks.contains(&meeting.rank), "{case:?}");
     }
 }
 
@@ -99,6 +120,8 @@ pub fn compare(case: &NavigationCase, tally: &mut Tally) {
     compare_siblings(case, tally);
     compare_hops(case, tally);
     compare_both_ways(case, tally);
+    compare_meeting(index, rank, mirrored(index, rank), tally);
+    compare_climber(index, rank, 1, tally);
 
     let summed = sys::subtree_sum(index, totals, rank);
     let expected = reference::subtree_sum(index, totals, rank);
@@ -165,6 +188,95 @@ fn compare_both_ways(case: &NavigationCase, tally: &mut Tally) {
     } else if refusal == 0 && hopped.refusal == 0 && met != list {
         tally.reach("other ranks by hops than the siblings");
     }
+}
+
+/// The rank as far from the last of the index as the given one is from the first.
+fn mirrored(index: &[u32], rank: u32) -> u32 {
+    index.first().map_or(0, |n| n.wrapping_add(1).wrapping_sub(rank))
+}
+
+/// The safe face's meeting.
+fn meet_by_safe_face(index: &[u32], a: u32, b: u32) -> Meeting {
+    match flowpewter::meet(index, a, b) {
+        Ok(met) => Meeting { refusal: 0, found: met.is_some(), rank: met.unwrap_or(0) },
+        Err(refusal) => Meeting { refusal: refusal.number(), found: false, rank: 0 },
+    }
+}
+
+/// Where two nodes meet, in both orders, on both sides, by the safe face too and by the baseline; on an index that the
+/// check accepts they meet exactly where their root ranks are equal.
+fn compare_meeting(index: &[u32], a: u32, b: u32, tally: &mut Tally) -> Meeting {
+    let reference::Meeting { refusal, found, rank } = reference::meet(index, a, b);
+    let expected = Meeting { refusal, found, rank };
+    tally.note("meet", refusal);
+    for call in [sys::meet, meet_by_safe_face, baseline::meet] {
+        assert_eq!(call(index, a, b), expected, "{a} and {b} of {index:?}");
+        assert_eq!(call(index, b, a), expected, "{b} and {a} of {index:?}");
+    }
+    if refusal == 0 {
+        compare_with_ancestors(index, a, b, tally);
+    }
+    if sys::index_check(index) {
+        tally.note("meet by root ranks", refusal);
+        let root = |rank: u32| Body::read(index, rank as usize).root;
+        assert!(refusal != 0 || found == (root(a) == root(b)), "{a} and {b} of {index:?}");
+    }
+    expected
+}
+
+/// The library's meeting with its own ancestors: it is the first of one node that is one of the other, too.
+fn compare_with_ancestors(index: &[u32], a: u32, b: u32, tally: &mut Tally) {
+    let Meeting { found, rank, .. } = sys::meet(index, a, b);
+    tally.reach(if found { "two nodes meet" } else { "two nodes don't meet" });
+    let [from_a, from_b] = [a, b].map(|rank| ancestors(index, rank));
+    let first = from_a.into_iter().find(|rank| from_b.contains(rank));
+    assert_eq!(found.then_some(rank), first, "{a} and {b} of {index:?}");
+}
+
+/// All ancestors of a rank by the library, itself included, nearest first.
+fn ancestors(index: &[u32], rank: u32) -> Vec<u32> {
+    let mut list = vec![0; rank as usize];
+    let found = flowpewter::ancestors(index, rank, i32::MIN..=i32::MAX, &mut list);
+    found.expect("the climb of an accepted meeting").ranks.to_vec()
+}
+
+/// A call of the safe face's climber.
+fn up_by_safe_face(climber: &mut Climber) -> ClimbedOne {
+    let (refusal, root) = match climber.up() {
+        Ok(Up::To(rank)) => {
+            assert_eq!(climber.rank(), rank);
+            (0, false)
+        }
+        Ok(Up::Root) => (0, true),
+        Err(refusal) => (refusal.number(), false),
+    };
+    ClimbedOne { refusal, root, rank: climber.rank() }
+}
+
+/// So many calls of a climber on both sides, by the safe face's too and by the baseline.
+fn compare_climber(index: &[u32], rank: u32, calls: usize, tally: &mut Tally) {
+    let mut climber = reference::Climber::at(index, rank);
+    let mut safe = Climber::new(index, rank);
+    for _ in 0..calls {
+        let at = climber.rank;
+        let reference::Step { refusal, root, rank } = climber.up();
+        let expected = ClimbedOne { refusal, root, rank };
+        tally.note("climb", refusal);
+        assert_eq!(sys::climb(index, at), expected, "{at} of {index:?}");
+        assert_eq!(baseline::climb(index, at), expected, "{at} of {index:?}");
+        assert_eq!(up_by_safe_face(&mut safe), expected, "{at} of {index:?}");
+    }
+}
+
+/// The safe face's climber as an iterator: each parent, then a refusal if there is one, then nothing.
+fn compare_iterator(index: &[u32], climb: &Climb) {
+    let parents = climb.ranks[1..].iter().map(|rank| Ok(*rank));
+    let refusal = Refusal::of_number(climb.refusal).map(Err);
+    let mut climber = Climber::new(index, climb.ranks[0]);
+    for expected in parents.chain(refusal).map(Some).chain([None; 3]) {
+        assert_eq!(climber.next(), expected, "{climb:?} of {index:?}");
+    }
+    assert_eq!(Some(&climber.rank()), climb.ranks.last(), "{index:?}");
 }
 
 /// What levels come to in an index that the check accepts, and in one that it turns down for them alone, by name.

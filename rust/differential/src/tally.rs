@@ -72,7 +72,8 @@ impl Tally {
     /// Fails if a navigation call on indexes that were built gave a refusal number that it can give less than `least`
     /// times, or gave another: what a build leaves has no fault, so that 13 and 15 can't be.
     pub fn expect_navigation(&self, least: u64) {
-        for call in ["span", "subtree_sum", "path_sum"] {
+        let meetings = ["meet", "meet by root ranks", "climb"];
+        for call in ["span", "subtree_sum", "path_sum"].into_iter().chain(meetings) {
             self.expect(call, &[0, 14], least);
         }
         let siblings = ["siblings", "siblings by hops", "siblings both ways"];

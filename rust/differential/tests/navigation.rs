@@ -2,7 +2,7 @@
 
 use differential::navigation::{self, LEVELS};
 use differential::Tally;
-use generate::hops::{FACTS, REFUSALS};
+use generate::{hops, meetings};
 
 #[test]
 fn navigation_on_any_slices() {
@@ -13,6 +13,10 @@ fn navigation_on_any_slices() {
     tally.expect("siblings", &[0, 13, 14, 16], 1_000);
     tally.expect("siblings by hops", &[0, 13, 14, 15, 16], 1_000);
     tally.expect("siblings both ways", &[0, 14, 16], 1_000);
+    tally.expect("meet", &[0, 13, 14, 15], 1_000);
+    tally.expect("meet by root ranks", &[0, 14], 1_000);
+    tally.expect("climb", &[0, 13, 14, 15], 1_000);
+    tally.expect_reached(&["two nodes meet", "two nodes don't meet"], 1_000);
     tally.expect("subtree_sum", &[0, 13, 14, 15], 1_000);
     tally.expect("path_sum", &[0, 13, 14, 15], 1_000);
     tally.expect_reached(&["navigation from row number 0"], 500);
@@ -25,8 +29,20 @@ fn hops_on_damaged_indexes() {
     tally.expect("siblings by hops", &[0, 13, 14, 15, 16], 500);
     tally.expect("siblings both ways", &[0, 14, 16], 200);
     tally.expect_reached(&["other ranks by hops than the siblings"], 500);
-    tally.expect_reached(&FACTS, 500);
-    tally.expect_reached(&REFUSALS, 200);
+    tally.expect_reached(&hops::FACTS, 500);
+    tally.expect_reached(&hops::REFUSALS, 200);
+}
+
+#[test]
+fn meetings_on_damaged_indexes() {
+    let tally = Tally::of_runs("meetings", 54, 50_000, navigation::meeting_calls);
+    tally.expect("meet", &[0, 13, 14, 15], 1_000);
+    tally.expect("meet by root ranks", &[0, 14], 1_000);
+    tally.expect("climb", &[0, 13, 14, 15], 1_000);
+    tally.expect_reached(&["two nodes meet", "two nodes don't meet"], 1_000);
+    tally.expect_reached(&meetings::FACTS, 500);
+    tally.expect_reached(&meetings::REFUSALS, 200);
+    tally.expect_reached(&meetings::CLIMBS, 1_000);
 }
 
 #[test]

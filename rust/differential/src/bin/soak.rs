@@ -33,6 +33,7 @@ fn main() {
             levelled::cases(&mut random, &mut tally);
             navigation::calls(&mut random, &mut tally);
             navigation::hop_calls(&mut random, &mut tally);
+            navigation::meeting_calls(&mut random, &mut tally);
             navigation::checks(&mut random, &mut tally);
         }
         builds::codes(&mut random, &mut tally);
