@@ -6,7 +6,7 @@
 
 use differential::baseline;
 use differential::databases::DATABASES;
-use flowpewter::sys::{self, Built, Edited};
+use flowpewter::sys::{self, Built, ClimbedOne, Edited};
 use flowpewter::{
     days_len, index_len, totals_len, Board, Days, Entry, Row, BODY, CONTENTS, JOURNAL_PLACES,
     LAST_DAY, MAX_LINES, MAX_NODES, MAX_WIDTH,
@@ -477,11 +477,17 @@ fn edits() {
     redo(handing_over, "withdrawal", room, stepped(Entry::TAKE_OUT, 100, 100));
 }
 
-fn navigation() {
-    let board = board(&wide());
+/// The index of the wide board.
+fn wide_index() -> Vec<u32> {
     let mut index = vec![0; index_len(MAX_NODES)];
     let mut totals = vec![0; totals_len(MAX_NODES)];
-    let n = baseline::build(&board, 0, None, None, &mut index, &mut totals).nodes;
+    baseline::build(&board(&wide()), 0, None, None, &mut index, &mut totals);
+    index
+}
+
+fn navigation() {
+    let index = wide_index();
+    let n = index[0];
     let (mut list, mut other) = (vec![0; n as usize], vec![0; n as usize]);
     let found = sys::descendants(&index, 1, 3, 12, &mut list);
     assert_eq!(found, baseline::descendants(&index, 1, 3, 12, &mut other));
@@ -585,6 +591,61 @@ fn sibling_calls() {
     siblings("all nodes", &forest(|_| 0), 32_772, 10);
 }
 
+/// A chain of 21,844 nodes that forks into two of 21,845.
+fn forked_chain() -> Vec<u32> {
+    forest(|rank| if rank == 43_690 { 21_844 } else { rank - 1 })
+}
+
+fn level(index: &[u32], rank: u32) -> u32 {
+    index[index_len(rank as usize) - 1]
+}
+
+/// The calls by which a climber comes to a root, that which says so included.
+fn calls_to_root(call: impl Fn(&[u32], u32) -> ClimbedOne, index: &[u32], rank: u32) -> u32 {
+    let mut climbed = call(index, rank);
+    let mut calls = 1;
+    while !climbed.root {
+        climbed = call(index, climbed.rank);
+        calls += 1;
+    }
+    calls
+}
+
+/// Where two nodes of a right index meet, and a climber from the second, `rounds` times.
+fn meeting(job: &str, index: &[u32], a: u32, b: u32, rounds: u32) {
+    let met = sys::meet(index, a, b);
+    assert!(met.found && met == baseline::meet(index, a, b));
+    let times = race(
+        rounds,
+        || {
+            black_box(sys::meet(black_box(index), a, b));
+        },
+        || {
+            black_box(baseline::meet(black_box(index), a, b));
+        },
+    );
+    let [first, second, at] = [a, b, met.rank].map(|rank| level(index, rank));
+    print(&format!("meet, {job}"), &format!("levels {first} and {second}, at level {at}"), times);
+
+    let calls = calls_to_root(sys::climb, index, b);
+    assert_eq!(calls, calls_to_root(baseline::climb, index, b));
+    let times = race(
+        rounds,
+        || {
+            black_box(calls_to_root(sys::climb, black_box(index), b));
+        },
+        || {
+            black_box(calls_to_root(baseline::climb, black_box(index), b));
+        },
+    );
+    print(&format!("climb to the root, {job}"), &format!("{calls} calls"), times);
+}
+
+fn meetings() {
+    meeting("a chain that forks", &forked_chain(), 43_689, 65_534, 10);
+    meeting("wide", &wide_index(), 15, 32_767, 10_000);
+}
+
 /// The node list as a recursive query; `library` is the time of the whole build in microseconds.
 fn queries(job: &str, rows: &[Row], library: f64) {
     for database in DATABASES {
@@ -627,6 +688,7 @@ fn main() {
     edits();
     navigation();
     sibling_calls();
+    meetings();
     println!();
     println!("| node list | by | query, ms | query / library's build |");
     println!("|---|---|---|---|");
