@@ -1,5 +1,6 @@
 /* How many drawing minutes hang under numeral 40? A pump whose valve, numeral 40, is shown in three places, and a
- * gasket whose parent isn't drawn yet. Then the numeral list beside figure 1, in which each numeral stands once. */
+ * gasket whose parent isn't drawn yet. Then the numeral list beside figure 1, in which each numeral stands once, and
+ * the caption of two parts that a leader joins. */
 #include "flowpewter.h"
 #include <inttypes.h>
 #include <stdio.h>
@@ -9,6 +10,33 @@ enum { NODES = 100 };
 static int refused(uint32_t refusal) {
     fprintf(stderr, "refused %" PRIu32 "\n", refusal);
     return 1;
+}
+
+static uint32_t numeral_at(const uint32_t *index, uint32_t rank) {
+    return index[FLOWPEWTER_BODY_AT(rank) + FLOWPEWTER_BODY_NUMERAL];
+}
+
+/* Names the smallest assembly that holds two parts, and the way up from the second. */
+static int caption(const uint32_t *index, size_t index_len, uint32_t a, uint32_t b) {
+    const flowpewter_meeting meeting = flowpewter_meet(index, index_len, a, b);
+    if (meeting.refusal != 0) {
+        return refused(meeting.refusal);
+    }
+    printf("a leader joins %" PRIu32 " and %" PRIu32, numeral_at(index, a), numeral_at(index, b));
+    if (meeting.found) {
+        printf(": %" PRIu32 " holds both\n", numeral_at(index, meeting.rank));
+    } else {
+        printf(": nothing holds both\n");
+    }
+
+    printf("up from %" PRIu32 ":", numeral_at(index, b));
+    flowpewter_climbed_one up = flowpewter_climb(index, index_len, b);
+    while (up.refusal == 0 && !up.root) {
+        printf(" %" PRIu32, numeral_at(index, up.rank));
+        up = flowpewter_climb(index, index_len, up.rank);
+    }
+    printf("\n");
+    return up.refusal == 0 ? 0 : refused(up.refusal);
 }
 
 int main(void) {
@@ -94,5 +122,7 @@ int main(void) {
         return refused(once.refusal);
     }
     printf("%" PRId64 " drawing minutes, each numeral drawn once\n", once.sum);
-    return 0;
+
+    /* The spring, rank 5, and the seal, rank 7, are parts of the valve. */
+    return caption(index, index_len, 5, 7);
 }

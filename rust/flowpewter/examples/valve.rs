@@ -1,10 +1,11 @@
 //! How many drawing minutes hang under numeral 40? A pump whose valve, numeral 40, is shown in three places, and a
-//! gasket whose parent isn't drawn yet. Then the numeral list beside figure 1, in which each numeral stands once.
+//! gasket whose parent isn't drawn yet. Then the numeral list beside figure 1, in which each numeral stands once, and
+//! the caption of two parts that a leader joins.
 #![forbid(unsafe_code)]
 
 use flowpewter::{
-    bodies, build, build_shortest, index_len, span, subtree_sum, totals_len, Board, Options,
-    Orphan, Refusal, Row, Start, BODY, CONTENTS,
+    bodies, build, build_shortest, index_len, meet, span, subtree_sum, totals_len, Board, Climber,
+    Options, Orphan, Refusal, Row, Start, BODY, CONTENTS,
 };
 
 /// Parent, numeral, order on the sheet, drawing minutes.
@@ -20,6 +21,24 @@ const PUMP: [Row; 10] = [
     Row::new(42, 43, 1, -2), // seal, taken over from an older drawing
     Row::new(50, 51, 1, 20), // gasket of the flange, numeral 50, which isn't drawn yet
 ];
+
+/// Names the smallest assembly that holds two parts, and the way up from the second.
+fn caption(index: &[u32], a: u32, b: u32) -> Result<(), Refusal> {
+    let numeral = |rank: u32| index[index_len(rank as usize - 1)];
+    let meeting = meet(index, a, b)?;
+    print!("a leader joins {} and {}: ", numeral(a), numeral(b));
+    match meeting {
+        Some(rank) => println!("{} holds both", numeral(rank)),
+        None => println!("nothing holds both"),
+    }
+
+    print!("up from {}:", numeral(b));
+    for parent in Climber::new(index, b) {
+        print!(" {}", numeral(parent?));
+    }
+    println!();
+    Ok(())
+}
 
 fn main() -> Result<(), Refusal> {
     let mut board = Board::EMPTY;
@@ -63,5 +82,7 @@ fn main() -> Result<(), Refusal> {
     }
     let once = subtree_sum(&index, &totals, 1)?;
     println!("{once} drawing minutes, each numeral drawn once");
-    Ok(())
+
+    // The spring, rank 5, and the seal, rank 7, are parts of the valve.
+    caption(&index, 5, 7)
 }
