@@ -40,7 +40,7 @@ fn climb_one(index: &[u32], rank: u32) -> ClimbedOne
     if refusal != 0 {
         return answer(refusal, false, rank);
     }
-    let parent = image::parent_at(index, rank as usize);
+    let parent = image::body_of(index, rank as usize).parent;
     if rank <= parent {
         return answer(15, false, rank);
     }

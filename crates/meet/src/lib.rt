@@ -1,7 +1,9 @@
 // Where two nodes meet, over an index image that anybody may have written: the largest rank that is an ancestor of both, themselves included.
 ghost use mathlib.Core.Path.{_≡_};
 ghost use Prim.Native.Nat.{_≤_};
+ghost use lib.ListN.{length};
 ghost use Rattle.lists.specs.Choice.{firstOf};
+ghost use Rattle.image.specs.Layout.{bodiesEnd};
 ghost use Rattle.spans.specs.Spans.{rankRefusal};
 ghost use Rattle.climb.specs.Climb.{badClimb};
 ghost use Rattle.meet.specs.Meet.{refused, meetAnswer};
@@ -27,12 +29,12 @@ fn refused(refusal: u32) -> Meeting
 
 // Whether a climb to rank 0 meets a parent rank not below its own.
 fn climb_breaks(index: &[u32], rank: usize) -> bool
-    requires { ⌜ rank ≤ 65535 ⌝ }
+    requires { ⌜ bodiesEnd rank ≤ length (now index) ⌝ }
     ensures { λ x. ⌜ x ≡ badClimb (now (index .entry)) rank ⌝ }
 {
     let mut k = rank;
     while 0 < k {
-        let parent = image::parent_at(index, k) as usize;
+        let parent = image::body_of(index, k).parent as usize;
         if k <= parent {
             return true;
         }
@@ -43,20 +45,20 @@ fn climb_breaks(index: &[u32], rank: usize) -> bool
 
 // Two climbs at once: the one at the larger rank goes up, until both are at the same rank, where they meet; at rank 0 where they don't. From there on they are one climb.
 fn climbs_meet(index: &[u32], a: usize, b: usize) -> Meeting
-    requires { ⌜ (a ≤ 65535) × (b ≤ 65535) ⌝ }
+    requires { ⌜ (bodiesEnd a ≤ length (now index)) × (bodiesEnd b ≤ length (now index)) × (a ≤ 65535) × (b ≤ 65535) ⌝ }
     ensures { λ x. ⌜ x ≡ climbsMeet (now (index .entry)) a b ⌝ }
 {
     let mut x = a;
     let mut y = b;
     while x != y {
         if x < y {
-            let parent = image::parent_at(index, y) as usize;
+            let parent = image::body_of(index, y).parent as usize;
             if y <= parent {
                 return refused(15);
             }
             y = parent;
         } else {
-            let parent = image::parent_at(index, x) as usize;
+            let parent = image::body_of(index, x).parent as usize;
             if x <= parent {
                 return refused(15);
             }

@@ -8,6 +8,7 @@ use native.Mathlib.Omega.{arith}
 use denote.Ref.{now}
 use borrow.Author.Needs.{needs}
 use Rattle.image.specs.Layout.{parentAt}
+use Rattle.image.specs.declared.Body.{Body}
 use Rattle.climb.specs.Climb.{badClimb}
 use Rattle.climb.specs.ClimbLaws.{stuck-step, stuck-bad}
 use Rattle.meet.specs.Meet.{common}
@@ -16,7 +17,7 @@ use Rattle.meet.proofs.climbs_meet.Statement.{statement}
 use Rattle.meet.proofs.climbs_meet.Tie as tie
 use Rattle.meet.proofs.climbs_meet.Reads as reads
 use Rattle.meet.proofs.climbs_meet.Lts as lts
-use Rattle.image.proofs.parent_at.Reads as parent-at-reads
+use Rattle.image.proofs.body_of.Reads as body-of-reads
 use Rattle.meet.proofs.climb_breaks.Reads as climb-breaks-reads
 use Rattle.meet.proofs.refused.Reads as refused-reads
 
@@ -34,8 +35,8 @@ S l = now (l .before .before .args .index)
 loop-holds : tie.Need-loop-holds Inv-loop μ-loop
 loop-holds c = (omega arith, omega arith, refl, refl, refl)
 
-parent-at-requires : tie.Need-parent-at-requires Inv-loop μ-loop
-parent-at-requires c κs = omega arith
+body-of-requires : tie.Need-body-of-requires Inv-loop μ-loop
+body-of-requires c κs = omega arith
 
 cast-parent : tie.Need-cast-parent Inv-loop μ-loop
 cast-parent c = search needs
@@ -45,8 +46,8 @@ refused-requires c κs = search needs
 
 returns : tie.Need-returns Inv-loop μ-loop
 returns c =
-    let l = c .before .before .before .before .before in
-    let e = c .before .before .parent-at .ensures in
+    let l = c .before .before .before .before .before .before in
+    let e = ap (λ (n : Body). n .parent) (c .before .before .before .body-of .ensures) in
     c .refused .ensures ∙ climbs-broken (S l) _ _ (inr (l .loop .inv .3 ∙ stuck-bad (S l) (l .loop .y) (omega arith) (rw (sym e) (c .before .if2 .taken))))
 
 loop-less : tie.Need-loop-less Inv-loop μ-loop
@@ -54,18 +55,18 @@ loop-less c = omega arith
 
 loop-again : tie.Need-loop-again Inv-loop μ-loop
 loop-again c =
-    let l = c .before .before .before .before in
-    let e = c .before .parent-at .ensures in
+    let l = c .before .before .before .before .before in
+    let e = ap (λ (n : Body). n .parent) (c .before .before .body-of .ensures) in
     let down : parentAt (S l) (l .loop .y) < l .loop .y = rw (sym e) (c .if2 .left) in (
       l .loop .inv .0,
       omega arith,
       l .loop .inv .2,
       l .loop .inv .3 ∙ stuck-step (S l) (l .loop .y) (omega arith) down ∙ ap (badClimb (S l)) (sym e),
-      l .loop .inv .4 ∙ second-up (S l) (l .loop .x) (l .loop .y) (c .before .before .if1 .taken) down ∙ ap (common (S l) (l .loop .x)) (sym e),
+      l .loop .inv .4 ∙ second-up (S l) (l .loop .x) (l .loop .y) (c .before .before .before .if1 .taken) down ∙ ap (common (S l) (l .loop .x)) (sym e),
     )
 
-parent-at-requires-2 : tie.Need-parent-at-requires-2 Inv-loop μ-loop
-parent-at-requires-2 c κs = omega arith
+body-of-requires-2 : tie.Need-body-of-requires-2 Inv-loop μ-loop
+body-of-requires-2 c κs = omega arith
 
 cast-parent-2 : tie.Need-cast-parent-2 Inv-loop μ-loop
 cast-parent-2 c = search needs
@@ -75,8 +76,8 @@ refused-requires-2 c κs = search needs
 
 returns-2 : tie.Need-returns-2 Inv-loop μ-loop
 returns-2 c =
-    let l = c .before .before .before .before .before in
-    let e = c .before .before .parent-at2 .ensures in
+    let l = c .before .before .before .before .before .before in
+    let e = ap (λ (n : Body). n .parent) (c .before .before .before .body-of2 .ensures) in
     c .refused2 .ensures ∙ climbs-broken (S l) _ _ (inl (l .loop .inv .2 ∙ stuck-bad (S l) (l .loop .x) (omega arith) (rw (sym e) (c .before .if3 .taken))))
 
 loop-less-2 : tie.Need-loop-less-2 Inv-loop μ-loop
@@ -84,8 +85,8 @@ loop-less-2 c = omega arith
 
 loop-again-2 : tie.Need-loop-again-2 Inv-loop μ-loop
 loop-again-2 c =
-    let l = c .before .before .before .before in
-    let e = c .before .parent-at2 .ensures in
+    let l = c .before .before .before .before .before in
+    let e = ap (λ (n : Body). n .parent) (c .before .before .body-of2 .ensures) in
     let down : parentAt (S l) (l .loop .x) < l .loop .x = rw (sym e) (c .if3 .left) in (
       omega arith,
       l .loop .inv .1,
@@ -123,13 +124,13 @@ climbs-meet-spec =
     Inv-loop
     μ-loop
     loop-holds
-    parent-at-requires
+    body-of-requires
     cast-parent
     refused-requires
     returns
     loop-less
     loop-again
-    parent-at-requires-2
+    body-of-requires-2
     cast-parent-2
     refused-requires-2
     returns-2

@@ -35,7 +35,7 @@ climbs-meet-requires c κs =
     let z = first-zero _ _ (passed c) in
     let a = ranked _ _ (z .0) in
     let b = ranked _ _ (z .1) in
-    (omega (arith, a .high, a .held), omega (arith, b .high, b .held))
+    (omega (arith, a .high, a .held), omega (arith, b .high, b .held), omega (arith, a .high, a .held), omega (arith, b .high, b .held))
 
 returns-2 : tie.Need-returns-2
 returns-2 c = c .climbs-meet .ensures ∙ ranks-passed _ _ _ (passed (c .before))
