@@ -22,7 +22,7 @@ pub record ClimberCases (s : List ℕ) : Type 0 where
   pub above : climbOneAnswer s 10 ≡ record { refusal = 14; root = false; rank = 10 }
   -- bodies that begin at word 9
   pub contents : climbOneAnswer (set s 1 9) 5 ≡ record { refusal = 13; root = false; rank = 5 }
-  -- the parent rank of rank 2, word 17, is 2: "a refused one stays", and from above the link it isn't met
+  -- the parent rank of rank 2, word 17, is 2: "a refused one stays", and a call from below doesn't meet that link
   pub broken : climbOneAnswer (set s 17 2) 2 ≡ record { refusal = 15; root = false; rank = 2 }
   pub before : climbOneAnswer (set s 17 2) 3 ≡ record { refusal = 0; root = false; rank = 2 }
   pub refused-stays : comesTo (set s 17 2) 5 9 ≡ 2
