@@ -1,4 +1,6 @@
 // The build of rows in working slices: prepared, enumerated, finished.
+#![tactic(auto)]
+
 ghost use Rattle.std.specs.Prelude.{◌≡◌, Bool, false, List, ℕ, ◌*◌, ◌≤◌, ◌<◌, length, take};
 ghost use Rattle.rows.specs.declared.Row.{Row};
 ghost use Rattle.options.specs.Options.{orphan_of, choice_of};

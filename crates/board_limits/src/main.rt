@@ -1,4 +1,6 @@
 // Runs a board at its limits, on the paper's own rows and from states that are not sound, one line a case: what was done, then what came of it.
+#![tactic(auto)]
+
 use board::{Board, Edited};
 use cases::{answer, number, row, say};
 use libc::STDOUT_FILENO;

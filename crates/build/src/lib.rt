@@ -1,4 +1,6 @@
 // The builds of a board: its hierarchy index over all its paths, over the shortest to each numeral, or over those with days left in a window, and the running totals.
+#![tactic(auto)]
+
 ghost use Rattle.std.specs.Prelude.{◌≡◌, length};
 ghost use Rattle.request.specs.Build.{start_rule, built_of, index_after, totals_after, by_default};
 ghost use Rattle.build.specs.AttemptedLayer.{CodeJudged, DaysJudged, AskedJudged, AskedAttempted};

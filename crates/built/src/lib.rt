@@ -1,4 +1,6 @@
 // What a build answers.
+#![tactic(auto)]
+
 ghost use Rattle.std.specs.Prelude.{◌≡◌, cond, eqb, pos, length, replicate};
 ghost use Rattle.built.specs.RefusedLayer.{refused_by};
 

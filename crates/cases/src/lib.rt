@@ -1,4 +1,6 @@
 // What the programs that run cases share: the paper's board with the index and the running totals that a build with code 3 makes of it, whether rows are the same, and how an answer is printed. Proved safe and ending; what they print is compared.
+#![tactic(auto)]
+
 ghost use Rattle.std.specs.Prelude.{◌≤◌};
 
 use board::Board;

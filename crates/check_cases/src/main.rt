@@ -1,5 +1,7 @@
 // Runs the index check on the example index of paper 01, on one slice for each condition that breaks it alone, on some that
 // break none, and on indexes of 65,535 nodes. Writes one line for each.
+#![tactic(auto)]
+
 ghost use Rattle.std.specs.Prelude.{◌<◌, ◌≤◌};
 
 fn report(name: &[u8], index: &[u32]) {

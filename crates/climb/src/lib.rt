@@ -1,4 +1,6 @@
 // The climb from a rank of an index image, that anybody may have written, to rank 0: ancestors.
+#![tactic(auto)]
+
 ghost use Rattle.std.specs.Prelude.{◌≡◌, false, cond, ◌≤◌, length};
 ghost use Rattle.lists.specs.Lists.{filter, front};
 ghost use Rattle.image.specs.Layout.{bodies_end};

@@ -1,4 +1,6 @@
 // A climber over an index image that anybody may have written: it keeps the lent index and the rank it has come to, and goes up one parent for each call.
+#![tactic(auto)]
+
 ghost use Rattle.std.specs.Prelude.{◌≡◌};
 ghost use Rattle.climber.specs.Climber.{answer, climb_one_answer};
 

@@ -1,4 +1,6 @@
 // Links to first children cut, over the positions of a table of rows in sibling order: those to rows that are flagged, or those of the classes of rows that were met.
+#![tactic(auto)]
+
 ghost use Rattle.std.specs.Prelude.{◌+◌, ◌*◌, ◌≤◌, ◌<◌, length};
 ghost use Rattle.table.specs.TableLayer.{row_column, child_column};
 ghost use Rattle.passes.specs.PassesLayer.{Named, RowsOnce};

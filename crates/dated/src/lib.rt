@@ -1,1 +1,3 @@
 // The dated builds of change request 2.8, which is in specs/.
+
+#![tactic(auto)]

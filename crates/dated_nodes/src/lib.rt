@@ -1,4 +1,6 @@
 // The nodes of a dated build: the walk of the paths with days left, and then their days, rank by rank.
+#![tactic(auto)]
+
 ghost use Rattle.std.specs.Prelude.{◌≡◌, Bool, List, ℕ, ◌+◌, ◌*◌, ◌≤◌, ◌<◌, length};
 ghost use Rattle.lists.specs.Lists.{front};
 ghost use Rattle.rows.specs.declared.Row.{Row};

@@ -1,4 +1,6 @@
 // The walk of the paths with days left: each row cuts the days down, and a row with which none is left is passed over with all that is below it.
+#![tactic(auto)]
+
 ghost use Rattle.std.specs.Prelude.{◌≡◌, ◌≢◌, true, ◌+◌, ◌*◌, ◌≤◌, ◌<◌, min, max, length, get_or, set};
 ghost use Rattle.rows.specs.Days.{first_after_last};
 ghost use Rattle.dated.specs.Dated.{some_day, common};

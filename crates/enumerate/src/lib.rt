@@ -1,4 +1,6 @@
 // The enumeration of a board's nodes: the regular paths, then under adopt and root the orphan paths and the entries of islands.
+#![tactic(auto)]
+
 ghost use Rattle.std.specs.Prelude.{◌≡◌, ◌+◌, ◌*◌, ◌<◌, ◌≤◌, Bool, List, length, slice_index};
 ghost use Rattle.rows.specs.declared.Row.{Row};
 ghost use Rattle.options.specs.declared.Depth.TheVariants.{None};

@@ -1,4 +1,6 @@
 // What is left to do once the bodies of all nodes stand in the index: its table of contents, refusals 10 to 12, the rows left over, the running totals.
+#![tactic(auto)]
+
 ghost use Rattle.std.specs.Prelude.{◌≡◌, not, ◌&&◌, List, map, ℕ, ◌≤◌, ◌<◌, eqb, length};
 ghost use Rattle.rows.specs.declared.Row.{Row};
 ghost use Rattle.image.specs.declared.Body.{Body};

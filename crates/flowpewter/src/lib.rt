@@ -1,4 +1,6 @@
 // The calls that C and Rust link to. Each has the contract of the call that it wraps; flat types only, and a slice is a pointer and a length.
+#![tactic(auto)]
+
 ghost use Rattle.std.specs.Prelude.{◌≡◌, length};
 ghost use Rattle.board.specs.Edits.{empty_of, sound_of, add_of, withdraw_of, remark_of, undo_of, redo_of};
 ghost use Rattle.navigate.specs.Navigate.{descendants_answer, descendants_out, siblings_answer, siblings_out};

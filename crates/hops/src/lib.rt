@@ -1,5 +1,7 @@
 // Siblings by hops over an index image that anybody may have written: from the parent's first child, or from rank 1, from tree to tree up to the parent's end, or to n. The parent and the ranks
 // met are read, and no others.
+#![tactic(auto)]
+
 ghost use Rattle.std.specs.Prelude.{◌≡◌, false, cond, ◌≤◌, length};
 ghost use Rattle.lists.specs.Lists.{front};
 ghost use Rattle.image.specs.Layout.{bad_contents};

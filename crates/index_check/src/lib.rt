@@ -1,4 +1,6 @@
 // Whether a lent slice is an index: paper 01, "Index check". One pass over the ranks, each compared with its parent's words.
+#![tactic(auto)]
+
 ghost use Rattle.std.specs.Prelude.{◌≡◌, ◌≤◌, length};
 ghost use Rattle.lists.specs.Lists.{all_to};
 ghost use Rattle.image.specs.Layout.{bodies_end, node_count};

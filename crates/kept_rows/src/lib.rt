@@ -1,5 +1,7 @@
 // The rows that end the kept paths of the shortest placement, over the positions of a table of rows in sibling order: a breadth-first search finds them, then each is linked
 // below the kept row that stands above it, and the kept start rows are flagged.
+#![tactic(auto)]
+
 ghost use Rattle.std.specs.Prelude.{◌≡◌, Bool, List, [], ◌∷◌, ℕ, ◌+◌, ◌*◌, ◌≤◌, ◌<◌, length, replicate, take};
 ghost use Rattle.std.proofs.Math.Seq.{slice};
 ghost use Rattle.rows.specs.declared.Row.{Row};

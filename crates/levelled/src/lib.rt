@@ -1,4 +1,6 @@
 // The index of a levelled part list: change request 2.5. The lines are only read; their numbers are put in order, their nodes counted, and each line is written beside the one before it.
+#![tactic(auto)]
+
 ghost use Rattle.std.specs.Prelude.{◌≡◌, false, ◌+◌, ◌/◌, ◌≤◌, length};
 ghost use Rattle.levels.specs.Levelled.{refusal18, refusal19, levelled_built, levelled_index, levelled_totals};
 ghost use Rattle.levels.specs.LineLayer.{Ready};

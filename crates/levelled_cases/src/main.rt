@@ -1,5 +1,7 @@
 // Runs the levelled build on the guide's table T_DEMO_LVL, on lists with blanks, equal lines and blank lines, at the limits and where it is refused. Writes one line a build, and where it lists
 // nodes one line for each: rank, tree size, parent rank, level, root rank, numeral, row number.
+#![tactic(auto)]
+
 ghost use Rattle.std.specs.Prelude.{◌≤◌};
 
 use built::Built;

@@ -1,4 +1,6 @@
 // How many nodes the lines of a levelled list stand for, line by line in their order, and how many of the lines are wholly blank.
+#![tactic(auto)]
+
 ghost use Rattle.std.specs.Prelude.{◌≡◌, [], ℕ, ◌+◌, ◌-◌, ◌*◌, ◌<◌, ◌≤◌, length, get_or};
 ghost use Rattle.lists.specs.Lists.{filter};
 ghost use Rattle.levels.specs.Levelled.{sorted_lines, levelled_nodes, blank_line};

@@ -1,4 +1,6 @@
 // The scan of lines `parent numeral order minutes`, byte by byte: its state is a value that goes from chunk to chunk, so a line may have any length.
+#![tactic(auto)]
+
 ghost use Rattle.std.specs.Prelude.{◌≡◌, ◌<◌, ◌≤◌, pos, neg_ℤ, drop};
 ghost use Rattle.lines.specs.Scan.{fresh, blank_of, finish_of, digit_of, space_of, minus_of, step_of, next_of};
 

@@ -1,4 +1,6 @@
 // The listing program as a library: the bytes of its input become the rows of a board, and the words of an index become the columns of its nodes.
+#![tactic(auto)]
+
 ghost use Rattle.std.specs.Prelude.{◌≡◌};
 ghost use Rattle.lines.specs.Text.{values};
 ghost use Rattle.listing.specs.Nodes.{columns_of};

@@ -1,4 +1,6 @@
 // Runs the marked cases M1 to M10 of paper 01 on its board of seven rows, the build by default, then builds whose refusals or slices are easy to get wrong; prints one line a case after M1's listing.
+#![tactic(auto)]
+
 use board::Board;
 use built::Built;
 use cases::{answer, number, say};

@@ -1,4 +1,6 @@
 // Where two nodes meet, over an index image that anybody may have written: the largest rank that is an ancestor of both, themselves included.
+#![tactic(auto)]
+
 ghost use Rattle.std.specs.Prelude.{◌≡◌, ◌≤◌, length};
 ghost use Rattle.lists.specs.Choice.{first_of};
 ghost use Rattle.image.specs.Layout.{bodies_end};

@@ -1,4 +1,6 @@
 // Navigation over an index image that anybody may have written: descendants and siblings.
+#![tactic(auto)]
+
 ghost use Rattle.std.specs.Prelude.{◌≡◌, ◌+◌, ◌-◌, ◌≤◌, length};
 ghost use Rattle.lists.specs.Lists.{filter, numbers, front};
 ghost use Rattle.image.specs.Layout.{bodies_end};

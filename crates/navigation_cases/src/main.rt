@@ -1,4 +1,6 @@
 // Runs each navigation call on the index of the listing of paper 01, and on slices that are damaged in one word; prints one line a case.
+#![tactic(auto)]
+
 use cases::{changed, damaged};
 use libc::STDOUT_FILENO;
 

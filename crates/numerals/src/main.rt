@@ -1,4 +1,6 @@
 // The listing program: reads rows from standard input, builds with code 3 and prints one line for each node.
+#![tactic(auto)]
+
 use options::Depth;
 use request::Start;
 

@@ -1,4 +1,6 @@
 // The rows outside the regular paths, over the positions of a table of rows in sibling order: they are linked among themselves, and the top orphans are flagged.
+#![tactic(auto)]
+
 ghost use Rattle.std.specs.Prelude.{◌≡◌, List, ℕ, ◌+◌, ◌≤◌, ◌<◌, length};
 ghost use Rattle.table.specs.TableLayer.{row_column, flag_column};
 ghost use Rattle.orphans.specs.OutsideLayer.{outside_at, last_flag, Linkable, LinkedFrom, ChildrenCleared, ChildrenShared, OutsideLinked};

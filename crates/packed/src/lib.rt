@@ -1,4 +1,6 @@
 // The last word of a body: level and two flags, packed and unpacked by shifts and masks.
+#![tactic(auto)]
+
 ghost use Rattle.std.specs.Prelude.{◌≡◌};
 ghost use Rattle.lists.specs.Choice.{bit};
 ghost use Rattle.packed.specs.LastWord.{level_of, closing_bit, orphan_bit, packed};

@@ -1,4 +1,6 @@
 // What a call does to a board, by numbers: what refuses it, its entry, and the places of the tape. Row numbers are counted from 1, places from 0.
+#![tactic(auto)]
+
 ghost use Rattle.std.specs.Prelude.{◌≡◌, cond, ◌+◌, ◌-◌, ◌≤◌, eqb, leb, ltb};
 ghost use Rattle.rows.specs.declared.Call.TheVariants.{Add, Withdraw, Remark, Undo, Redo};
 ghost use Rattle.rows.specs.Days.{first_after_last};

@@ -1,4 +1,6 @@
 // A line of output, written from its end to its front, so that each number's digits come in the order in which they are found.
+#![tactic(auto)]
+
 ghost use Rattle.std.specs.Prelude.{◌≡◌, nat_abs};
 ghost use Rattle.printing.specs.Printed.{line_of};
 ghost use Rattle.printing.specs.PrintedLayer.{fresh_of, byte_of, number_of, signed_of, column_of, flag_of, last_columns_of};

@@ -1,4 +1,6 @@
 // The pull of one part: the running totals of an index, corrected for new minutes of one row without a build. Over an index and totals that anybody may have written.
+#![tactic(auto)]
+
 ghost use Rattle.std.specs.Prelude.{◌≡◌, cond, ◌||◌, map, ◌+◌, ◌≤◌, ◌<◌, neg_ℤ, ◌+ℤ◌, length};
 ghost use Rattle.std.specs.Int.Signed.{mag};
 ghost use Rattle.lists.specs.Lists.{numbers, front};

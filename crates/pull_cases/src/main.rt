@@ -1,4 +1,6 @@
 // Pulls rows of the index of paper 01's listing, whole and damaged in a word or a total, and prints what each answers and the totals that it leaves, one line a case.
+#![tactic(auto)]
+
 use cases::{changed, damaged, number, say};
 use libc::STDOUT_FILENO;
 

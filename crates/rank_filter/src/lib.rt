@@ -1,4 +1,6 @@
 // Which ranks of an index image a list keeps: those at distances within limits, or those below one parent.
+#![tactic(auto)]
+
 ghost use Rattle.std.specs.Prelude.{◌≡◌, ◌≤◌, pos, ◌-ℤ◌, length};
 ghost use Rattle.image.specs.Layout.{bodies_end};
 ghost use Rattle.rank_filter.specs.Distances.{within};

@@ -1,4 +1,6 @@
 // The tests of a build before its nodes are walked: refusals 7 and 8, and how many nodes the slices hold (refusal 9).
+#![tactic(auto)]
+
 ghost use Rattle.std.specs.Prelude.{◌≡◌, ◌≤◌, min, length};
 ghost use Rattle.nodes.specs.Refusals.{given, refusal7};
 ghost use Rattle.table.specs.TableLayer.{row_column};

@@ -1,6 +1,8 @@
 // What a build of a board is asked.
 
 // Which rows start a path: those with parent 0, or those whose numeral is in a lent list.
+#![tactic(auto)]
+
 #[derive(Drop)]
 pub enum Start {
     ParentZero,

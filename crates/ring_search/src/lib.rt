@@ -1,4 +1,6 @@
 // The search for a ring: whether the numeral of a row can be reached from itself by linked rows, over the positions of a table of rows in sibling order.
+#![tactic(auto)]
+
 ghost use Rattle.std.specs.Prelude.{ℕ, ◌≤◌, ◌<◌, length, get_or};
 ghost use Rattle.table.specs.TableLayer.{child_column, flag_column};
 ghost use Rattle.walk.specs.WalkLayer.{Walkable, rows_of};

@@ -1,4 +1,6 @@
 // Entries into islands: the walk of an entry with all that is below it, and the pass over the row numbers that enters one island after the other.
+#![tactic(auto)]
+
 ghost use Rattle.std.specs.Prelude.{ℕ, ◌+◌, ◌*◌, ◌<◌, ◌≤◌, Bool, List, length, slice_index};
 ghost use Rattle.rows.specs.declared.Row.{Row};
 ghost use Rattle.table.specs.TableLayer.{row_column, child_column, flag_column, Stored};

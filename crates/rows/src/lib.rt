@@ -1,4 +1,6 @@
 // Rows of a parts list, the entries that change them, and when both make a sound board, by numbers. Row numbers are counted from 1, places from 0.
+#![tactic(auto)]
+
 ghost use Rattle.std.specs.Prelude.{◌≡◌, cond, ◌≤◌, eqb};
 ghost use Rattle.rows.specs.Journal.{blank, remarked, undated};
 ghost use Rattle.rows.specs.SoundLayer.{can_do, none_or, sound_by};

@@ -1,4 +1,6 @@
 // Which ranks an index image has, that anybody may have written, and the span of bodies of a rank.
+#![tactic(auto)]
+
 ghost use Rattle.std.specs.Prelude.{◌≡◌};
 ghost use Rattle.spans.specs.Spans.{rank_refusal, span_refusal, span_part};
 

@@ -1,4 +1,6 @@
 // Standard input and output of the listing program: thin loops over proved functions on slices.
+#![tactic(auto)]
+
 ghost use Rattle.std.specs.Prelude.{◌≡◌};
 ghost use Rattle.listing.specs.Loading.{stopped};
 ghost use Rattle.streams.specs.Reading.{OfText};

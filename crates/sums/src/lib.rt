@@ -1,4 +1,6 @@
 // Sums over the running totals of an index image that anybody may have written.
+#![tactic(auto)]
+
 ghost use Rattle.std.specs.Prelude.{◌≡◌, ◌||◌, ◌≤◌, ◌<◌, ◌-ℤ◌, length};
 ghost use Rattle.image.specs.Layout.{bodies_end};
 ghost use Rattle.sums.specs.Sums.{totals_refusal, beyond, bad_totals, bad_path, path_sum, subtree_answer, path_answer};

@@ -1,4 +1,6 @@
 // Rows by position in one lent table, eight words a row: read and written by position and column.
+#![tactic(auto)]
+
 ghost use Rattle.std.specs.Prelude.{◌≡◌, ℕ, ◌<◌, length, get_or};
 ghost use Rattle.table.specs.TableLayer.{column, Stored, row_column, parent_column, numeral_column, child_column, next_column, class_column, parent_position_column, flag_column};
 

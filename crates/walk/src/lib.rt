@@ -1,4 +1,6 @@
 // The depth-first enumerator over a table of rows in sibling order, which writes the bodies of the nodes that it meets.
+#![tactic(auto)]
+
 ghost use Rattle.std.specs.Prelude.{◌≡◌, ◌≢◌, true, ◌+◌, ◌*◌, ◌-◌, ◌≤◌, ◌<◌, length, get_or, set};
 ghost use Rattle.table.specs.TableLayer.{class_column, child_column};
 ghost use Rattle.paths.specs.EmitLayer.{or_else};

@@ -1,4 +1,6 @@
 // Demand 3 run whole: a list of calls from the empty board, a build on the board they leave, and the navigation on that build. The theorem is in `guarantee`, specs/Guarantee.antt.
+#![tactic(auto)]
+
 ghost use Rattle.std.specs.Prelude.{◌≡◌, length};
 ghost use Rattle.history.specs.Encoding.{decoded, replayed_of, refusals_of};
 ghost use Rattle.request.specs.Build.{start_rule};

@@ -9,42 +9,42 @@ use lib.ListN.{length}
 use Rattle.lists.proofs.clear_i64.Statement.{statement}
 use Rattle.lists.proofs.clear_i64.Tie as tie
 
-abbrev invariant-loop : tie.invariant-loop
+abbrev invariant-loop : tie.invariant-loop-k
 invariant-loop s₀ k₀ s k = Filling (replicate (length s₀) (pos 0)) s k × (k ≤ length s₀) × (length s ≡ length s₀)
 
-abbrev decreases-loop : tie.decreases-loop
+abbrev decreases-loop : tie.decreases-loop-k
 decreases-loop s₀ k₀ s k = length s₀ - k
 
-loop-holds : tie.Need-loop-init invariant-loop decreases-loop
+loop-holds : tie.Need-loop-k-init invariant-loop decreases-loop
 loop-holds c =
     (filling_start _ _ (length-replicate {A = ℤ} _ (pos 0)), omega arith, refl)
 
-mul-s : tie.Need-overflow-mul-s invariant-loop decreases-loop
+mul-s : tie.Need-offset_bounds-s-k invariant-loop decreases-loop
 mul-s c = search rules
 
-slice-set-of-s : tie.Need-slice-set-of-s invariant-loop decreases-loop
+slice-set-of-s : tie.Need-slice_set_of-s invariant-loop decreases-loop
 slice-set-of-s c = search rules
 
-add-k : tie.Need-overflow-add-k invariant-loop decreases-loop
+add-k : tie.Need-overflow_add-k invariant-loop decreases-loop
 add-k c = search rules
 
-loop-less : tie.Need-loop-smaller invariant-loop decreases-loop
+loop-less : tie.Need-loop-k-smaller invariant-loop decreases-loop
 loop-less c =
-    omega (arith, c.before.loop.invariant.2, c.loop-test.true)
+    omega (arith, c.before.loop-k.invariant.2, c.loop-k-test.true)
 
-loop-again : tie.Need-loop-preserved invariant-loop decreases-loop
+loop-again : tie.Need-loop-k-preserved invariant-loop decreases-loop
 loop-again c =
     let n : ℕ = length c.before.before.args.s.now in
-    (filling_step _ _ _ _ (pos 0) (omega (arith, length-replicate {A = ℤ} n (pos 0))) c.before.loop.invariant.0 (sym (get_or-replicate {A = ℤ} n c.before.loop.k (pos 0) (pos 0) (omega (arith, c.before.loop.invariant.2, c.loop-test.true)))), omega (arith, c.before.loop.invariant.2, c.loop-test.true), simp length-set c.before.loop.invariant.2)
+    (filling_step _ _ _ _ (pos 0) (omega (arith, length-replicate {A = ℤ} n (pos 0))) c.before.loop-k.invariant.0 (sym (get_or-replicate {A = ℤ} n c.before.loop-k.k (pos 0) (pos 0) (omega (arith, c.before.loop-k.invariant.2, c.loop-k-test.true)))), omega (arith, c.before.loop-k.invariant.2, c.loop-k-test.true), simp length-set c.before.loop-k.invariant.2)
 
-same_length : tie.Need-same-length invariant-loop decreases-loop
+same_length : tie.Need-shape_of-s invariant-loop decreases-loop
 same_length c =
-    c.before.loop.invariant.2
+    c.before.loop-k.invariant.2
 
 returns : tie.Need-returns invariant-loop decreases-loop
 returns c =
     let n : ℕ = length c.before.before.args.s.now in
-    filling_end _ _ _ (omega (arith, length-replicate {A = ℤ} n (pos 0), c.before.loop.invariant.2)) c.before.loop.invariant.0
+    filling_end _ _ _ (omega (arith, length-replicate {A = ℤ} n (pos 0), c.before.loop-k.invariant.2)) c.before.loop-k.invariant.0
 
 pub clear_i64_spec : {M : Type 1} → statement M
 clear_i64_spec =
