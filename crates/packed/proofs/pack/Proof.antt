@@ -12,18 +12,18 @@ use Rattle.packed.proofs.pack.Reads as reads
 use Rattle.packed.proofs.pack.Lts as lts
 use Rattle.packed.proofs.bit_of.Reads as bit-of-reads
 
-bit-of-requires : tie.Need-bit-of-requires
+bit-of-requires : tie.Need-bit_of-c-requires
 bit-of-requires c κs = search rules
 
-bit-of-requires-2 : tie.Need-bit-of-requires-2
+bit-of-requires-2 : tie.Need-bit_of-o-requires
 bit-of-requires-2 c κs = search rules
 
 returns : tie.Need-returns
 returns c =
     let x = c.before.before.args in
-    pack_word c.bit-of2.result c.before.bit-of.result x.level (omega (arith, c.bit-of2.ensures, bit_le x.orphan)) (omega (arith, c.before.bit-of.ensures, bit_le x.closing))
-    ∙ ap (λ (o : ℕ). o * 2 ^ 31 + (c.before.bit-of.result * 2 ^ 30 + x.level % 65536)) c.bit-of2.ensures
-    ∙ ap (λ (b : ℕ). bit x.orphan * 2 ^ 31 + (b * 2 ^ 30 + x.level % 65536)) c.before.bit-of.ensures
+    pack_word c.bit_of-o.result c.before.bit_of-c.result x.level (omega (arith, c.bit_of-o.ensures, bit_le x.orphan)) (omega (arith, c.before.bit_of-c.ensures, bit_le x.closing))
+    ∙ ap (λ (o : ℕ). o * 2 ^ 31 + (c.before.bit_of-c.result * 2 ^ 30 + x.level % 65536)) c.bit_of-o.ensures
+    ∙ ap (λ (b : ℕ). bit x.orphan * 2 ^ 31 + (b * 2 ^ 30 + x.level % 65536)) c.before.bit_of-c.ensures
 
 pub pack_spec : {M : Type 1} → statement M
 pack_spec = tie.close (tie.spec bit-of-requires bit-of-requires-2 returns)
