@@ -4,13 +4,13 @@ use borrow.Author.Rules.{rules}
 use Rattle.lines.proofs.negated.Statement.{statement}
 use Rattle.lines.proofs.negated.Tie as tie
 
-cast-result : tie.Need-overflow-cast-result
+cast-result : tie.Need-overflow_cast-result
 cast-result c = search rules
 
-sub-result : tie.Need-overflow-sub-result
+sub-result : tie.Need-overflow_sub-result
 sub-result c = diff_fits c.args.v c.requires
 
-cast-result-2 : tie.Need-overflow-cast-result-2
+cast-result-2 : tie.Need-overflow_cast-result-2
 cast-result-2 c = cast_fits c.args.v c.requires
 
 returns : tie.Need-returns

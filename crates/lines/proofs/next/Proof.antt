@@ -10,48 +10,48 @@ use Prim.Native.Nat.{◌-◌}
 use Rattle.lines.proofs.next.Statement.{statement}
 use Rattle.lines.proofs.next.Tie as tie
 
-abbrev invariant-loop : tie.invariant-loop
+abbrev invariant-loop : tie.invariant-loop-i
 invariant-loop s from p₀ i₀ p i = next_of p i (drop i s) ≡ next_of p₀ i₀ (drop i₀ s)
 
-abbrev decreases-loop : tie.decreases-loop
+abbrev decreases-loop : tie.decreases-loop-i
 decreases-loop s from p₀ i₀ p i = length s - i
 
-loop-holds : tie.Need-loop-init invariant-loop decreases-loop
+loop-holds : tie.Need-loop-i-init invariant-loop decreases-loop
 loop-holds c = search rules
 
-shared-slice-read-b : tie.Need-shared-slice-read-b invariant-loop decreases-loop
+shared-slice-read-b : tie.Need-bounds-s-i invariant-loop decreases-loop
 shared-slice-read-b c = search rules
 
-add-i : tie.Need-overflow-add-i invariant-loop decreases-loop
+add-i : tie.Need-overflow_add-i invariant-loop decreases-loop
 add-i c = search rules
 
 step-requires : tie.Need-step-requires invariant-loop decreases-loop
 step-requires c κs = search rules
 
-enum-known-q : tie.Need-enum-known-q invariant-loop decreases-loop
+enum-known-q : tie.Need-enum_known-q invariant-loop decreases-loop
 enum-known-q c = search rules
 
-loop-less : tie.Need-loop-smaller invariant-loop decreases-loop
+loop-less : tie.Need-loop-i-smaller invariant-loop decreases-loop
 loop-less c = search rules
 
-loop-again : tie.Need-loop-preserved invariant-loop decreases-loop
-loop-again c = (sym (more c.before.before.before.before.before.before.before.before.args.s.now c.before.before.before.before.before.before.loop.p c.before.before.before.before.before.before.loop.i c.before.before.before.before.before.loop-test.true c.before.before.before.step.result c.before.before.before.step.ensures c.before.q.given.0.0 c.before.q.given.1) ∙ c.before.before.before.before.before.before.loop.invariant)
+loop-again : tie.Need-loop-i-preserved invariant-loop decreases-loop
+loop-again c = (sym (more c.args.s.now c.loop-i.p c.loop-i.i c.loop-i-test.true c.step.result c.step.ensures _ c.in-More.is) ∙ c.loop-i.invariant)
 
-enum-known-a : tie.Need-enum-known-a invariant-loop decreases-loop
+enum-known-a : tie.Need-enum_known-a invariant-loop decreases-loop
 enum-known-a c = search rules
 
-returns : tie.Need-returns invariant-loop decreases-loop
+returns : tie.Need-returns-in-Row invariant-loop decreases-loop
 returns c =
-    sym (row c.before.before.before.before.before.before.before.before.args.s.now c.before.before.before.before.before.before.loop.p c.before.before.before.before.before.before.loop.i c.before.before.before.before.before.loop-test.true c.before.before.before.step.result c.before.before.before.step.ensures _ _ _ _ _ (to_z-of_z {w = w32} {z = c.before.a.given.0.1.1.1.0} (search rules)) c.before.a.given.1) ∙ c.before.before.before.before.before.before.loop.invariant
+    sym (row c.args.s.now c.loop-i.p c.loop-i.i c.loop-i-test.true c.step.result c.step.ensures _ _ _ _ _ (to_z-of_z {w = w32} {z = c.in-Row.m} (search rules)) c.in-Row.is) ∙ c.loop-i.invariant
 
-enum_told : tie.Need-enum-told invariant-loop decreases-loop
+enum_told : tie.Need-enum_told-1 invariant-loop decreases-loop
 enum_told c = search rules
 
-returns-2 : tie.Need-returns-2 invariant-loop decreases-loop
-returns-2 c = sym (bad c.before.before.before.before.before.before.before.args.s.now c.before.before.before.before.before.loop.p c.before.before.before.before.before.loop.i c.before.before.before.before.loop-test.true c.before.before.step.result c.before.before.step.ensures c.enum_told.given.1) ∙ c.before.before.before.before.before.loop.invariant
+returns-2 : tie.Need-returns-in-Bad invariant-loop decreases-loop
+returns-2 c = sym (bad c.args.s.now c.loop-i.p c.loop-i.i c.loop-i-test.true c.step.result c.step.ensures c.in-Bad.is) ∙ c.loop-i.invariant
 
-returns-3 : tie.Need-returns-3 invariant-loop decreases-loop
-returns-3 c = sym (ended c.before.before.before.args.s.now c.before.loop.p c.before.loop.i c.loop-test.false) ∙ c.before.loop.invariant
+returns-3 : tie.Need-returns invariant-loop decreases-loop
+returns-3 c = sym (ended c.args.s.now c.loop-i.p c.loop-i.i c.loop-i-test.false) ∙ c.loop-i.invariant
 
 pub next_spec : {M : Type 1} → statement M
 next_spec =

@@ -5,20 +5,20 @@ use native.Mathlib.Omega.{arith}
 use Rattle.lines.proofs.Scan.digit.Statement.{statement}
 use Rattle.lines.proofs.Scan.digit.Tie as tie
 
-returns : tie.Need-returns
-returns c = digit_wide c.before.args.self c.before.args.d (omega arith)
+returns : tie.Need-returns-then-v-gt429496729
+returns c = digit_wide c.args.self c.args.d (omega arith)
 
-mul-n : tie.Need-overflow-mul-n
+mul-n : tie.Need-overflow_mul-n
 mul-n c = search rules
 
-add-n : tie.Need-overflow-add-n
+add-n : tie.Need-overflow_add-n
 add-n c = search rules
 
-returns-2 : tie.Need-returns-2
-returns-2 c = digit_wide c.before.before.args.self c.before.before.args.d c.if2.true
+returns-2 : tie.Need-returns-then-n-gt4294967295
+returns-2 c = digit_wide c.args.self c.args.d c.if-n-gt4294967295.true
 
-returns-3 : tie.Need-returns-3
-returns-3 c = digit_fits c.before.before.args.self c.before.before.args.d c.if2.false
+returns-3 : tie.Need-returns
+returns-3 c = digit_fits c.args.self c.args.d c.if-n-gt4294967295.false
 
 pub digit_spec : {M : Type 1} → statement M
 digit_spec = tie.close (tie.spec returns mul-n add-n returns-2 returns-3)

@@ -7,29 +7,29 @@ use borrow.Author.Rules.{rules}
 use Rattle.lines.proofs.Scan.finish.Statement.{statement}
 use Rattle.lines.proofs.Scan.finish.Tie as tie
 
-returns : tie.Need-returns
-returns c = few c.before.before.args.self c.if1.true
+returns : tie.Need-returns-then-self-ne3
+returns c = few c.args.self c.if-self-ne3.true
 
-returns-2 : tie.Need-returns-2
-returns-2 c = bare c.before.before.before.before.args.self c.before.before.if1.false c.if2.true
+returns-2 : tie.Need-returns-then-not-self
+returns-2 c = bare c.args.self c.if-self-ne3.false c.if-not-self.true
 
-returns-3 : tie.Need-returns-3
-returns-3 c = low c.before.before.before.before.before.before.args.self c.before.before.before.before.if1.false c.before.before.if2.false c.before.if3.true c.if4.true
+returns-3 : tie.Need-returns-then-v-gt2147483648
+returns-3 c = low c.args.self c.if-self-ne3.false c.if-not-self.false c.if-self.true c.if-v-gt2147483648.true
 
 negated-requires : tie.Need-negated-requires
 negated-requires c κs = search rules
 
-returns-4 : tie.Need-returns-4
-returns-4 c = minus c.before.before.before.before.before.before.before.args.self c.before.before.before.before.before.if1.false c.before.before.before.if2.false _ (to_z-of_z {w = w32} (record { sfits = c.negated.type-inv }) ∙ c.negated.ensures) c.before.before.if3.true c.before.if4.false
+returns-4 : tie.Need-returns-then-self
+returns-4 c = minus c.args.self c.if-self-ne3.false c.if-not-self.false _ (to_z-of_z {w = w32} (record { sfits = c.negated.type_inv }) ∙ c.negated.ensures) c.if-self.true c.if-v-gt2147483648.false
 
-returns-5 : tie.Need-returns-5
-returns-5 c = high c.before.before.before.before.before.before.args.self c.before.before.before.before.if1.false c.before.before.if2.false c.before.if3.false c.if5.true
+returns-5 : tie.Need-returns-then-v-gt2147483647
+returns-5 c = high c.args.self c.if-self-ne3.false c.if-not-self.false c.if-self.false c.if-v-gt2147483647.true
 
-cast-t6 : tie.Need-overflow-cast-t6
+cast-t6 : tie.Need-overflow_cast-result
 cast-t6 c = search rules
 
-returns-6 : tie.Need-returns-6
-returns-6 c = plus c.before.before.before.before.before.before.args.self c.before.before.before.before.if1.false c.before.before.if2.false c.before.if3.false c.if5.false
+returns-6 : tie.Need-returns
+returns-6 c = plus c.args.self c.if-self-ne3.false c.if-not-self.false c.if-self.false c.if-v-gt2147483647.false
 
 pub finish_spec : {M : Type 1} → statement M
 finish_spec =

@@ -3,17 +3,17 @@ use Rattle.lines.proofs.Bytes.{minus_field, minus_some, minus_twice, minus_first
 use Rattle.lines.proofs.Scan.minus.Statement.{statement}
 use Rattle.lines.proofs.Scan.minus.Tie as tie
 
-returns : tie.Need-returns
-returns c = minus_field c.before.args.self c.if1.true
+returns : tie.Need-returns-then-field-ne3
+returns c = minus_field c.args.self c.if-field-ne3.true
 
-returns-2 : tie.Need-returns-2
-returns-2 c = minus_some c.before.before.args.self c.before.if1.false c.if2.true
+returns-2 : tie.Need-returns-then-self
+returns-2 c = minus_some c.args.self c.if-field-ne3.false c.if-self.true
 
-returns-3 : tie.Need-returns-3
-returns-3 c = minus_twice c.before.before.before.args.self c.before.before.if1.false c.before.if2.false c.if3.true
+returns-3 : tie.Need-returns-then-self-2
+returns-3 c = minus_twice c.args.self c.if-field-ne3.false c.if-self.false c.if-self-2.true
 
-returns-4 : tie.Need-returns-4
-returns-4 c = minus_first c.before.before.before.args.self c.before.before.if1.false c.before.if2.false c.if3.false
+returns-4 : tie.Need-returns
+returns-4 c = minus_first c.args.self c.if-field-ne3.false c.if-self.false c.if-self-2.false
 
 pub minus_spec : {M : Type 1} → statement M
 minus_spec = tie.close (tie.spec returns returns-2 returns-3 returns-4)

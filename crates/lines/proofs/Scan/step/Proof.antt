@@ -8,35 +8,35 @@ use Rattle.lines.proofs.Scan.step.Tie as tie
 finish-requires : tie.Need-finish-requires
 finish-requires c κs = search rules
 
-returns : tie.Need-returns
-returns c = step_newline c.before.before.args.self c.before.before.args.b c.finish.result c.finish.ensures c.before.if1.true
+returns : tie.Need-returns-then-b-eq10
+returns c = step_newline c.args.self c.args.b c.finish.result c.finish.ensures c.if-b-eq10.true
 
 space-requires : tie.Need-space-requires
 space-requires c κs = search rules
 
-returns-2 : tie.Need-returns-2
-returns-2 c = step_space c.before.before.before.args.self c.before.before.before.args.b c.space.result c.space.ensures c.before.before.if1.false c.before.if2.true
+returns-2 : tie.Need-returns-then-b-eq32
+returns-2 c = step_space c.args.self c.args.b c.space.result c.space.ensures c.if-b-eq10.false c.if-b-eq32.true
 
 minus-requires : tie.Need-minus-requires
 minus-requires c κs = search rules
 
-returns-3 : tie.Need-returns-3
-returns-3 c = step_minus c.before.before.before.before.args.self c.before.before.before.before.args.b c.minus.result c.minus.ensures c.before.before.before.if1.false c.before.before.if2.false c.before.if3.true
+returns-3 : tie.Need-returns-then-b-eq45
+returns-3 c = step_minus c.args.self c.args.b c.minus.result c.minus.ensures c.if-b-eq10.false c.if-b-eq32.false c.if-b-eq45.true
 
-returns-4 : tie.Need-returns-4
-returns-4 c = step_below c.before.before.before.before.args.self c.before.before.before.before.args.b _ c.before.before.before.if1.false c.before.before.if2.false c.before.if3.false refl c.if4.true
+returns-4 : tie.Need-returns-then-b-lt48
+returns-4 c = step_below c.args.self c.args.b _ c.if-b-eq10.false c.if-b-eq32.false c.if-b-eq45.false refl c.if-b-lt48.true
 
-returns-5 : tie.Need-returns-5
-returns-5 c = step_above c.before.before.before.before.before.args.self c.before.before.before.before.before.args.b _ c.before.before.before.before.if1.false c.before.before.before.if2.false c.before.before.if3.false refl c.before.if4.false c.if5.true
+returns-5 : tie.Need-returns-then-b-gt57
+returns-5 c = step_above c.args.self c.args.b _ c.if-b-eq10.false c.if-b-eq32.false c.if-b-eq45.false refl c.if-b-lt48.false c.if-b-gt57.true
 
-cast-digit : tie.Need-overflow-cast-digit
+cast-digit : tie.Need-overflow_cast-b
 cast-digit c = search rules
 
 digit-requires : tie.Need-digit-requires
 digit-requires c κs = search rules
 
-returns-6 : tie.Need-returns-6
-returns-6 c = step_digit c.before.before.before.before.before.before.args.self c.before.before.before.before.before.before.args.b c.digit.result c.before.before.before.before.before.if1.false c.before.before.before.before.if2.false c.before.before.before.if3.false c.digit.ensures c.before.before.if4.false c.before.if5.false
+returns-6 : tie.Need-returns
+returns-6 c = step_digit c.args.self c.args.b c.digit.result c.if-b-eq10.false c.if-b-eq32.false c.if-b-eq45.false c.digit.ensures c.if-b-lt48.false c.if-b-gt57.false
 
 pub step_spec : {M : Type 1} → statement M
 step_spec =
