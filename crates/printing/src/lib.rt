@@ -6,7 +6,7 @@ ghost use Rattle.printing.specs.Printed.{line_of};
 ghost use Rattle.printing.specs.PrintedLayer.{fresh_of, byte_of, number_of, signed_of, column_of, flag_of, last_columns_of};
 
 // What is printed of a node, column by column.
-#[derive(Drop)]
+#[derive(Clone, Copy)]
 pub struct Columns {
     pub rank: u32,
     pub size: u32,
@@ -20,7 +20,7 @@ pub struct Columns {
 }
 
 // The text stands in the last places of `bytes`, from place `from` on.
-#[derive(Drop)]
+#[derive(Clone, Copy)]
 pub struct Printed {
     pub from: usize,
     pub bytes: [u8; 256],

@@ -12,7 +12,7 @@ new-requires c κs = search rules
 byte-requires : tie.Need-byte-requires
 byte-requires c κs = search rules
 
-signed-requires : tie.Need-signed-requires
+signed-requires : tie.Need-signed-sum-requires
 signed-requires c κs = search rules
 
 column-requires : tie.Need-column-requires
@@ -26,9 +26,9 @@ flag-requires-2 c κs = search rules
 
 returns : tie.Need-returns
 returns c =
-    let a = c.before.before.before.before.before.before.before.args.c in
-    last_chain a _ c.before.before.before.before.before.before.new.result c.before.before.before.before.before.byte.result c.before.before.before.signed.result c.before.before.column.result c.before.flag.result c.flag2.result
-    (to_z-of_z {w = w64} {z = a.sum} (search (rules, c.before.before.before.before.struct_told.given))) c.before.before.before.before.before.before.new.ensures c.before.before.before.before.before.byte.ensures c.before.before.before.signed.ensures c.before.before.column.ensures c.before.flag.ensures c.flag2.ensures
+    let a = c.args.c in
+    last_chain a _ c.new.result c.byte.result c.signed-sum.result c.column.result c.flag.result c.flag-2.result
+    (to_z-of_z {w = w64} {z = a.sum} (search (rules, c.struct_told-1.given))) c.new.ensures c.byte.ensures c.signed-sum.ensures c.column.ensures c.flag.ensures c.flag-2.ensures
 
 pub last_columns_spec : {M : Type 1} → statement M
 last_columns_spec = tie.close (tie.spec new-requires byte-requires signed-requires column-requires flag-requires flag-requires-2 returns)

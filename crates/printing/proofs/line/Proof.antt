@@ -4,7 +4,7 @@ use Rattle.printing.proofs.Chains.{line_chain}
 use Rattle.printing.proofs.line.Statement.{statement}
 use Rattle.printing.proofs.line.Tie as tie
 
-last-columns-requires : tie.Need-last-columns-requires
+last-columns-requires : tie.Need-last_columns-last-requires
 last-columns-requires c κs = search rules
 
 column-requires : tie.Need-column-requires
@@ -24,8 +24,8 @@ column-requires-5 c κs = search rules
 
 returns : tie.Need-returns
 returns c =
-    line_chain c.before.before.before.before.before.before.args.c c.before.before.before.before.before.last-columns.result c.before.before.before.before.column.result c.before.before.before.column2.result c.before.before.column3.result c.before.column4.result c.column5.result
-    c.before.before.before.before.before.last-columns.ensures c.before.before.before.before.column.ensures c.before.before.before.column2.ensures c.before.before.column3.ensures c.before.column4.ensures c.column5.ensures
+    line_chain c.args.c c.last_columns-last.result c.column.result c.column-2.result c.column-3.result c.column-4.result c.column-5.result
+    c.last_columns-last.ensures c.column.ensures c.column-2.ensures c.column-3.ensures c.column-4.ensures c.column-5.ensures
 
 pub line_spec : {M : Type 1} → statement M
 line_spec =

@@ -5,23 +5,23 @@ use Rattle.printing.proofs.Unsigned.{kept, plain_cast, less_fits, less-cast, les
 use Rattle.printing.proofs.magnitude.Statement.{statement}
 use Rattle.printing.proofs.magnitude.Tie as tie
 
-sub-less : tie.Need-overflow-sub-less
-sub-less c = less_fits c.before.args.n c.before.ranges.n c.if1.true
+sub-less : tie.Need-overflow_sub-less
+sub-less c = less_fits c.args.n c.ranges.n c.if-n-lt0.true
 
-cast-result : tie.Need-overflow-cast-result
-cast-result c = less-cast c.before.args.n c.before.ranges.n c.if1.true
+cast-result : tie.Need-overflow_cast-result
+cast-result c = less-cast c.args.n c.ranges.n c.if-n-lt0.true
 
-add-result : tie.Need-overflow-add-result
-add-result c = less_one c.before.args.n c.before.ranges.n c.if1.true
+add-result : tie.Need-overflow_add-result
+add-result c = less_one c.args.n c.ranges.n c.if-n-lt0.true
 
-cast-result-2 : tie.Need-overflow-cast-result-2
-cast-result-2 c = plain_cast c.before.args.n c.before.ranges.n c.if1.false
+cast-result-2 : tie.Need-overflow_cast-result-else-n-lt0
+cast-result-2 c = plain_cast c.args.n c.ranges.n c.if-n-lt0.false
 
-returns : tie.Need-returns
-returns c = less_size c.before.args.n c.before.ranges.n c.if1.true
+returns : tie.Need-returns-then-n-lt0
+returns c = less_size c.args.n c.ranges.n c.if-n-lt0.true
 
-returns-2 : tie.Need-returns-2
-returns-2 c = ap nat_abs (kept c.before.args.n c.before.ranges.n)
+returns-2 : tie.Need-returns-else-n-lt0
+returns-2 c = ap nat_abs (kept c.args.n c.ranges.n)
 
 pub magnitude_spec : {M : Type 1} → statement M
 magnitude_spec =

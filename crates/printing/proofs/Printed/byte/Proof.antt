@@ -4,17 +4,17 @@ use Rattle.printing.proofs.Spell.{byte_low, byte_high, byte_put}
 use Rattle.printing.proofs.Printed.byte.Statement.{statement}
 use Rattle.printing.proofs.Printed.byte.Tie as tie
 
-returns : tie.Need-returns
-returns c = byte_low c.before.args.self c.before.args.b c.if1.true
+returns : tie.Need-returns-then-from-lt1
+returns c = byte_low c.args.self c.args.b c.if-from-lt1.true
 
-returns-2 : tie.Need-returns-2
-returns-2 c = byte_high c.before.before.args.self c.before.before.args.b c.before.if1.false c.if2.true
+returns-2 : tie.Need-returns-then-from-gt256
+returns-2 c = byte_high c.args.self c.args.b c.if-from-lt1.false c.if-from-gt256.true
 
-element-write-next : tie.Need-element-write-next
+element-write-next : tie.Need-bounds-next-at
 element-write-next c = search rules
 
-returns-3 : tie.Need-returns-3
-returns-3 c = byte_put c.before.before.args.self c.before.before.args.b c.before.if1.false c.if2.false
+returns-3 : tie.Need-returns
+returns-3 c = byte_put c.args.self c.args.b c.if-from-lt1.false c.if-from-gt256.false
 
 pub byte_spec : {M : Type 1} → statement M
 byte_spec = tie.close (tie.spec returns returns-2 element-write-next returns-3)

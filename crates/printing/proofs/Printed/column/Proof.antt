@@ -11,7 +11,7 @@ number-requires : tie.Need-number-requires
 number-requires c κs = search rules
 
 returns : tie.Need-returns
-returns c = column_chain c.before.before.args.self c.before.byte.result c.number.result c.before.before.args.n c.before.byte.ensures c.number.ensures
+returns c = column_chain c.args.self c.byte.result c.number.result c.args.n c.byte.ensures c.number.ensures
 
 pub column_spec : {M : Type 1} → statement M
 column_spec = tie.close (tie.spec byte-requires number-requires returns)
