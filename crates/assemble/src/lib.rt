@@ -23,7 +23,7 @@ use request::Start;
 use rows::{Days, Row};
 
 // Which paths of the rows are nodes: all of them, by these choices and this depth, for each numeral the shortest alone, or by choices and a depth those with days left in a window.
-#[derive(Drop)]
+#[derive(Clone, Copy)]
 pub enum Placement {
     AllPaths(Choice, Depth),
     Shortest,

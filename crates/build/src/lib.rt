@@ -16,7 +16,7 @@ use request::Start;
 use rows::Days;
 
 // What is asked of a build: all paths, by an option code and a depth, for each numeral the shortest, or by a code and a depth the paths with days left in a window.
-#[derive(Drop)]
+#[derive(Clone, Copy)]
 pub enum Asked {
     ByCode(u32, Depth),
     ByShortest,
@@ -24,7 +24,7 @@ pub enum Asked {
 }
 
 // What comes of what is asked: refusal 6, 20 or 7, or 0, and where it is 0 the placement.
-#[derive(Drop)]
+#[derive(Clone, Copy)]
 pub struct Judged {
     pub refusal: u32,
     pub placement: Placement,

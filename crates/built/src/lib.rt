@@ -6,7 +6,7 @@ ghost use Rattle.built.specs.RefusedLayer.{refused_by};
 
 // The refusal or 0, the number of nodes, and the second count: of a board the rows that end no node, of a levelled list the lines that are wholly blank.
 #[repr(C)]
-#[derive(Drop)]
+#[derive(Clone, Copy)]
 pub struct Built {
     pub refusal: u32,
     pub nodes: u32,

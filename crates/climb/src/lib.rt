@@ -13,7 +13,7 @@ use rank_filter::Keep;
 
 // The answer to a call that lists ancestors, with the parent links that were followed.
 #[repr(C)]
-#[derive(Drop)]
+#[derive(Clone, Copy)]
 pub struct Climbed {
     pub refusal: u32,
     pub len: usize,

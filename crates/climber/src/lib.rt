@@ -6,7 +6,7 @@ ghost use Rattle.climber.specs.Climber.{answer, climb_one_answer};
 
 // The answer to a call that goes up one parent: whether the rank is a root, and the rank come to.
 #[repr(C)]
-#[derive(Drop)]
+#[derive(Clone, Copy)]
 pub struct ClimbedOne {
     pub refusal: u32,
     pub root: bool,
@@ -14,14 +14,14 @@ pub struct ClimbedOne {
 }
 
 // The lent index and the rank that the climber has come to.
-#[derive(Drop)]
+#[derive(Clone, Copy)]
 pub struct Climber<'a> {
     pub index: &'a [u32],
     pub rank: u32,
 }
 
 // The climber after a call, and what the call answered.
-#[derive(Drop)]
+#[derive(Clone, Copy)]
 pub struct Rise<'a> {
     pub climber: Climber<'a>,
     pub answer: ClimbedOne,

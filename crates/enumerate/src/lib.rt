@@ -16,7 +16,7 @@ use options::Depth;
 use walk::{Bounds, Place, Progress};
 
 // The walk of the start rows: how many nodes those before a position have, how many all have, and their check word.
-#[derive(Drop)]
+#[derive(Clone, Copy)]
 pub struct StartProgress {
     pub before: u32,
     pub count: u32,

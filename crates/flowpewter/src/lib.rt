@@ -34,7 +34,7 @@ use sums::Summed;
 
 // Where a node's span stands in the index slice: its first word, counted from 0, and its number of words.
 #[repr(C)]
-#[derive(Drop)]
+#[derive(Clone, Copy)]
 pub struct Span {
     pub refusal: u32,
     pub start: usize,

@@ -14,7 +14,7 @@ use rows::{Call, Days, Row};
 
 // What `replay` answers: its own refusal number (101 to 103), or 0, the number of calls and the board after them.
 #[repr(C)]
-#[derive(Drop)]
+#[derive(Clone, Copy)]
 pub struct Replayed {
     pub refusal: u32,
     pub calls: usize,

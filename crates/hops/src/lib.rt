@@ -11,7 +11,7 @@ ghost use Rattle.hops.specs.HopsLayer.{reached, counted};
 
 // The answer to a call that lists siblings by hops, with the hops that were made.
 #[repr(C)]
-#[derive(Drop)]
+#[derive(Clone, Copy)]
 pub struct Hopped {
     pub refusal: u32,
     pub len: usize,
@@ -19,7 +19,7 @@ pub struct Hopped {
 }
 
 // The last rank below a parent; 15 where the parent is above n or has no span.
-#[derive(Drop)]
+#[derive(Clone, Copy)]
 struct Reach {
     refusal: u32,
     last: usize,

@@ -15,7 +15,7 @@ use lists::get;
 
 // A line: its number in the slice and its place among the sorted lines, both counted from 0; how many cells it shares with the line before it there, and how many with
 // the next; how many nodes there are up to the next line.
-#[derive(Drop)]
+#[derive(Clone, Copy)]
 pub struct Line {
     pub number: u32,
     pub place: usize,
@@ -25,7 +25,7 @@ pub struct Line {
 }
 
 // The nodes written, and the root of the last line's.
-#[derive(Drop)]
+#[derive(Clone, Copy)]
 struct Met {
     count: u32,
     root: u32,

@@ -6,7 +6,7 @@ ghost use Rattle.lines.specs.Scan.{fresh, blank_of, finish_of, digit_of, space_o
 
 // Where a line's scan stands: the field that is being read (0 to 3), whether it has a digit yet, whether it has a minus sign,
 // its number so far, and the fields before it.
-#[derive(Drop)]
+#[derive(Clone, Copy)]
 pub struct Scan {
     pub field: u32,
     pub digits: bool,
@@ -18,7 +18,7 @@ pub struct Scan {
 }
 
 // What one byte does: the line goes on, or it has ended in a row, or it is no row.
-#[derive(Drop)]
+#[derive(Clone, Copy)]
 pub enum Step {
     More(Scan),
     Row(u32, u32, u32, i32),
@@ -26,7 +26,7 @@ pub enum Step {
 }
 
 // What a scan from a place of a chunk finds: a row and the place after it, a bad line, or the chunk's end.
-#[derive(Drop)]
+#[derive(Clone, Copy)]
 pub enum Found {
     Row(u32, u32, u32, i32, usize),
     Bad,

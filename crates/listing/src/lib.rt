@@ -12,7 +12,7 @@ use printing::Columns;
 
 // How far the input has been read: the refusal of the first row that was refused (0 if none was), whether a line is bad,
 // the number of the line that is being read, the scan of that line, and the rows so far.
-#[derive(Drop)]
+#[derive(Clone, Copy)]
 pub struct Load {
     pub refusal: u32,
     pub bad: bool,

@@ -11,7 +11,7 @@ ghost use Rattle.meet.specs.MeetLayer.{climbs_meet};
 
 // The answer: whether the two nodes meet, and the rank where they do, 0 for none.
 #[repr(C)]
-#[derive(Drop)]
+#[derive(Clone, Copy)]
 pub struct Meeting {
     pub refusal: u32,
     pub found: bool,

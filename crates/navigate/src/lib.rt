@@ -12,7 +12,7 @@ use rank_filter::Keep;
 
 // The answer to a call that lists ranks.
 #[repr(C)]
-#[derive(Drop)]
+#[derive(Clone, Copy)]
 pub struct Listed {
     pub refusal: u32,
     pub len: usize,

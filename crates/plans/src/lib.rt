@@ -13,7 +13,7 @@ use rows::{Call, Entry, Row};
 // What a call does: the number that refuses it, 0 for none; how many places of the tape move up by one; the place where the inverse of
 // its entry goes; the kept and undone numbers afterwards; and its entry. Where that is `taped` it is the one found at the place, else
 // `entry`; of the row of one that `remarks` the minutes alone count.
-#[derive(Drop)]
+#[derive(Clone, Copy)]
 pub struct Plan {
     pub refusal: u32,
     pub moves: usize,

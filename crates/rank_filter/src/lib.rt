@@ -7,7 +7,7 @@ ghost use Rattle.rank_filter.specs.Distances.{within};
 ghost use Rattle.rank_filter.specs.KeepLayer.{keeps_at};
 
 // Which ranks a list keeps.
-#[derive(Drop)]
+#[derive(Clone, Copy)]
 pub enum Keep {
     // Those whose level less a base level is within a lower and an upper limit.
     Within(u32, i32, i32),

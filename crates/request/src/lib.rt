@@ -3,7 +3,7 @@
 // Which rows start a path: those with parent 0, or those whose numeral is in a lent list.
 #![tactic(auto)]
 
-#[derive(Drop)]
+#[derive(Clone, Copy)]
 pub enum Start {
     ParentZero,
     Listed,

@@ -7,7 +7,7 @@ ghost use Rattle.rows.specs.SoundLayer.{can_do, none_or, sound_by};
 
 // The days from the first to the last, both included; none where the first is after the last.
 #[repr(C)]
-#[derive(Drop)]
+#[derive(Clone, Copy)]
 pub struct Days {
     pub first: u32,
     pub last: u32,
@@ -15,7 +15,7 @@ pub struct Days {
 
 // A row of the parts list: parent 0 is none, minutes below 0 are a deduction.
 #[repr(C)]
-#[derive(Drop)]
+#[derive(Clone, Copy)]
 pub struct Row {
     pub parent: u32,
     pub numeral: u32,
@@ -26,7 +26,7 @@ pub struct Row {
 
 // An operation on the rows. Kind 0 takes out the row at place `at`, 1 puts `row` in at place `at`, 2 sets place `at` to `row`.
 #[repr(C)]
-#[derive(Drop)]
+#[derive(Clone, Copy)]
 pub struct Entry {
     pub kind: u32,
     pub at: u32,
@@ -34,7 +34,7 @@ pub struct Entry {
 }
 
 // An edit as a value.
-#[derive(Drop)]
+#[derive(Clone, Copy)]
 pub enum Call {
     Add(Row),
     Withdraw(usize),

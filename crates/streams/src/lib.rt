@@ -10,7 +10,7 @@ use libc::{STDIN_FILENO, STDOUT_FILENO};
 use listing::Load;
 
 // A load, and whether the input has ended.
-#[derive(Drop)]
+#[derive(Clone, Copy)]
 struct Reading {
     ended: bool,
     load: Load,

@@ -8,7 +8,7 @@ ghost use Rattle.sums.specs.SumsLayer.{found};
 
 // The answer to a call that sums minutes.
 #[repr(C)]
-#[derive(Drop)]
+#[derive(Clone, Copy)]
 pub struct Summed {
     pub refusal: u32,
     pub sum: i64,

@@ -9,14 +9,14 @@ ghost use Rattle.walk.specs.WalkLayer.{Walkable, rows_of, RootsFrom, SiblingsFro
 
 // How many nodes were met, and the check word of their bodies.
 #[repr(C)]
-#[derive(Drop)]
+#[derive(Clone, Copy)]
 pub struct Progress {
     pub count: u32,
     pub check: u32,
 }
 
 // Where siblings hang: their level, the ranks of their parent and of their root (0 for none), and whether their paths are orphan paths.
-#[derive(Drop)]
+#[derive(Clone, Copy)]
 pub struct Place {
     pub level: u32,
     pub parent: u32,
@@ -25,7 +25,7 @@ pub struct Place {
 }
 
 // How far a walk may go: the last level, and how many nodes there is room for.
-#[derive(Drop)]
+#[derive(Clone, Copy)]
 pub struct Bounds {
     pub limit: u32,
     pub cap: u32,

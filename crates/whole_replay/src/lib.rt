@@ -13,14 +13,14 @@ use request::Start;
 use sums::Summed;
 
 // What is to be built: all paths, the shortest, or those with days left in a window, and the start rule.
-#[derive(Drop)]
+#[derive(Clone, Copy)]
 pub struct BuildOptions {
     pub asked: Asked,
     pub start: Start,
 }
 
 // What is asked of the index: a rank, and the limits of the distance of its descendants.
-#[derive(Drop)]
+#[derive(Clone, Copy)]
 pub struct Question {
     pub rank: u32,
     pub lower: i32,
@@ -29,7 +29,7 @@ pub struct Question {
 
 // What `replay_all` answers: the replay's own refusal number (101 to 103), or 0, the number of calls, the numbers of the board's kept steps, undone steps and rows after them, and the answers of the build, the descendants and the subtree sum.
 #[repr(C)]
-#[derive(Drop)]
+#[derive(Clone, Copy)]
 pub struct ReplayedAll {
     pub replayed: u32,
     pub calls: usize,
