@@ -6,25 +6,25 @@ use Rattle.plans.specs.PlanLayer.{change_plan, plan_of}
 use Rattle.plans.proofs.add_plan.Statement.{statement}
 use Rattle.plans.proofs.add_plan.Tie as tie
 
-place-named-requires : tie.Need-place-named-requires
+place-named-requires : tie.Need-place_named-requires
 place-named-requires c κs = search rules
 
-entry-of-requires : tie.Need-entry-of-requires
+entry-of-requires : tie.Need-entry_of-entry-requires
 entry-of-requires c κs = search rules
 
-add-refusal-requires : tie.Need-add-refusal-requires
+add-refusal-requires : tie.Need-add_refusal-requires
 add-refusal-requires c κs = search rules
 
-change-plan-requires : tie.Need-change-plan-requires
+change-plan-requires : tie.Need-change_plan-requires
 change-plan-requires c κs = search rules
 
 returns : tie.Need-returns
 unfolding plan_of
 returns c =
     let e = c.before.before in
-    let a = e.before.before.args in
-    let entry = e.entry_of.ensures ∙ (λ i. record { kind = 1; at = e.before.place-named.ensures i; row = a.row }) in
-    c.change-plan.ensures ∙ (λ i. change_plan (c.before.add-refusal.ensures i) a.kept false (entry i))
+    let a = e.args in
+    let entry = e.entry_of-entry.ensures ∙ (λ i. record { kind = 1; at = e.place_named.ensures i; row = a.row }) in
+    c.change_plan.ensures ∙ (λ i. change_plan (c.add_refusal.ensures i) a.kept false (entry i))
 
 pub add_plan_spec : {M : Type 1} → statement M
 add_plan_spec =

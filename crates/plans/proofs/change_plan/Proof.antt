@@ -8,23 +8,23 @@ use Rattle.plans.specs.PlanLaws.{room_less}
 use Rattle.plans.proofs.change_plan.Statement.{statement}
 use Rattle.plans.proofs.change_plan.Tie as tie
 
-room-after-requires : tie.Need-room-after-requires
+room-after-requires : tie.Need-room_after-place-requires
 room-after-requires c κs = search rules
 
-moves-for-requires : tie.Need-moves-for-requires
+moves-for-requires : tie.Need-moves_for-requires
 moves-for-requires c κs = search rules
 
-add-t7 : tie.Need-overflow-add-t7
-add-t7 c = record { fits = omega (arith, c.before.Room-after.ensures, room_less c.before.before.args.kept) }
+add-t7 : tie.Need-overflow_add-result
+add-t7 c = record { fits = omega (arith, c.room_after-place.ensures, room_less c.args.kept) }
 
 returns : tie.Need-returns
 unfolding change_plan
 returns c =
-    let a = c.before.before.args in
-    let place = c.before.Room-after.ensures in
+    let a = c.args in
+    let place = c.room_after-place.ensures in
     λ i. record {
       refusal = a.refusal;
-      moves = c.moves-for.ensures i;
+      moves = c.moves_for.ensures i;
       place = place i;
       kept = place i + 1;
       undone = 0;

@@ -15,14 +15,14 @@ by_one true true = refl
 by_one true false = refl
 by_one false none = refl
 
-judged-requires : tie.Need-judged-requires
+judged-requires : tie.Need-judged-plan-requires
 judged-requires c κs = search rules
 
 returns : tie.Need-returns
 unfolding judged_plan plan_of
 returns c =
-    let a = c.before.before.args in
-    ap (λ (s : Plan). not (eqb s.refusal 1)) c.before.judged.ensures ∙ by_one (sound_by a.count a.kept a.undone a.numbered a.newest a.next) (eqb a.kept 0)
+    let a = c.args in
+    ap (λ (s : Plan). not (eqb s.refusal 1)) c.judged-plan.ensures ∙ by_one (sound_by a.count a.kept a.undone a.numbered a.newest a.next) (eqb a.kept 0)
 
 pub is_sound_spec : {M : Type 1} → statement M
 is_sound_spec = tie.close (tie.spec judged-requires returns)

@@ -9,28 +9,28 @@ use Rattle.plans.specs.PlanLaws.{room_less, at_most_le, blank_entry}
 use Rattle.plans.proofs.redo_plan.Statement.{statement}
 use Rattle.plans.proofs.redo_plan.Tie as tie
 
-room-after-requires : tie.Need-room-after-requires
+room-after-requires : tie.Need-room_after-room-requires
 room-after-requires c κs = search rules
 
-step-refusal-requires : tie.Need-step-refusal-requires
+step-refusal-requires : tie.Need-step_refusal-requires
 step-refusal-requires c κs = search rules
 
-at-most-256-requires : tie.Need-at-most-256-requires
+at-most-256-requires : tie.Need-at_most_256-requires
 at-most-256-requires c κs = search rules
 
-moves-for-requires : tie.Need-moves-for-requires
-moves-for-requires c κs = rw c.at-most-256.ensures (at_most_le _)
+moves-for-requires : tie.Need-moves_for-requires
+moves-for-requires c κs = rw c.at_most_256.ensures (at_most_le _)
 
-add-t7 : tie.Need-overflow-add-t7
-add-t7 c = record { fits = omega (arith, c.before.before.before.Room-after.ensures, room_less c.before.before.before.before.args.kept) }
+add-t7 : tie.Need-overflow_add-result
+add-t7 c = record { fits = omega (arith, c.room_after-room.ensures, room_less c.args.kept) }
 
-one-less-requires : tie.Need-one-less-requires
+one-less-requires : tie.Need-one_less-requires
 one-less-requires c κs = search rules
 
-blank-row-requires : tie.Need-blank-row-requires
+blank-row-requires : tie.Need-blank_row-requires
 blank-row-requires c κs = search rules
 
-entry-of-requires : tie.Need-entry-of-requires
+entry-of-requires : tie.Need-entry_of-requires
 entry-of-requires c κs = search rules
 
 returns : tie.Need-returns
@@ -38,15 +38,15 @@ unfolding plan_of
 returns c =
     let m = c.before.before.before in
     let r = m.before.before.before in
-    let moves = m.moves-for.ensures ∙ ap (moves_for r.before.args.kept) m.before.at-most-256.ensures in
-    let room = r.Room-after.ensures in
-    let entry = blank_entry c.entry_of.result c.before.blank-row.result c.entry_of.ensures c.before.blank-row.ensures in
+    let moves = m.moves_for.ensures ∙ ap (moves_for r.args.kept) m.at_most_256.ensures in
+    let room = r.room_after-room.ensures in
+    let entry = blank_entry c.entry_of.result c.blank_row.result c.entry_of.ensures c.blank_row.ensures in
     λ i. record {
-      refusal = m.before.before.step-refusal.ensures i;
+      refusal = m.step_refusal.ensures i;
       moves = moves i;
       place = room i;
       kept = room i + 1;
-      undone = c.before.before.one_less.ensures i;
+      undone = c.one_less.ensures i;
       taped = true;
       remarks = false;
       entry = entry i;

@@ -12,25 +12,25 @@ use Rattle.plans.specs.PlanLayer.{place_named, change_plan, plan_of}
 use Rattle.plans.proofs.remark_plan.Statement.{statement}
 use Rattle.plans.proofs.remark_plan.Tie as tie
 
-one-less-requires : tie.Need-one-less-requires
+one-less-requires : tie.Need-one_less-requires
 one-less-requires c κs = search rules
 
-place-named-requires : tie.Need-place-named-requires
+place-named-requires : tie.Need-place_named-requires
 place-named-requires c κs = search rules
 
-blank-row-requires : tie.Need-blank-row-requires
+blank-row-requires : tie.Need-blank_row-requires
 blank-row-requires c κs = search rules
 
-with-minutes-requires : tie.Need-with-minutes-requires
+with-minutes-requires : tie.Need-with_minutes-requires
 with-minutes-requires c κs = search rules
 
-entry-of-requires : tie.Need-entry-of-requires
+entry-of-requires : tie.Need-entry_of-entry-requires
 entry-of-requires c κs = search rules
 
-row-refusal-requires : tie.Need-row-refusal-requires
+row-refusal-requires : tie.Need-row_refusal-requires
 row-refusal-requires c κs = search rules
 
-change-plan-requires : tie.Need-change-plan-requires
+change-plan-requires : tie.Need-change_plan-requires
 change-plan-requires c κs = search rules
 
 returns : tie.Need-returns
@@ -39,10 +39,10 @@ returns c =
     let n = c.before.before.before in
     let s = n.before.before.before.before in
     let h : SFits w32 s.args.minutes = search rules in
-    let at : n.before.before.place-named.result ≡ place_named (s.args.k - 1) = n.before.before.place-named.ensures ∙ ap place_named n.before.before.before.one_less.ensures in
-    let row : n.with-minutes.result ≡ remarked blank s.args.minutes = simp (to_z-of_z h) at n.with-minutes.ensures ∙ ap (λ (r : Row). remarked r s.args.minutes) n.before.blank-row.ensures in
-    let entry : c.before.before.entry_of.result ≡ record { kind = 2; at = place_named (s.args.k - 1); row = remarked blank s.args.minutes } = c.before.before.entry_of.ensures ∙ (λ i. record { kind = 2; at = at i; row = row i }) in
-    c.change-plan.ensures ∙ (λ i. change_plan (c.before.row-refusal.ensures i) s.args.kept true (entry i))
+    let at : n.place_named.result ≡ place_named (s.args.k - 1) = n.place_named.ensures ∙ ap place_named n.one_less.ensures in
+    let row : n.with_minutes.result ≡ remarked blank s.args.minutes = simp (to_z-of_z h) at n.with_minutes.ensures ∙ ap (λ (r : Row). remarked r s.args.minutes) n.blank_row.ensures in
+    let entry : c.entry_of-entry.result ≡ record { kind = 2; at = place_named (s.args.k - 1); row = remarked blank s.args.minutes } = c.entry_of-entry.ensures ∙ (λ i. record { kind = 2; at = at i; row = row i }) in
+    c.change_plan.ensures ∙ (λ i. change_plan (c.row_refusal.ensures i) s.args.kept true (entry i))
 
 pub remark_plan_spec : {M : Type 1} → statement M
 remark_plan_spec =
