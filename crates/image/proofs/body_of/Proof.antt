@@ -10,61 +10,61 @@ use Rattle.packed.proofs.orphan_of.Reads as orphan-of-reads
 use Rattle.image.proofs.part_at.Reads as part-at-reads
 use Rattle.image.proofs.word_of.Reads as word-of-reads
 
-part-at-requires : tie.Need-part-at-requires
+part-at-requires : tie.Need-part_at-at-requires
 part-at-requires c κs = search rules
 
-word-of-requires : tie.Need-word-of-requires
+word-of-requires : tie.Need-word_of-word-requires
 word-of-requires c κs = search rules
 
-mul-t5 : tie.Need-overflow-mul-t5
+mul-t5 : tie.Need-offset_bounds-index-at
 mul-t5 c = search rules
 
-shared-slice-read-t7 : tie.Need-shared-slice-read-t7
+shared-slice-read-t7 : tie.Need-bounds-index-at
 shared-slice-read-t7 c = search rules
 
-add-t8 : tie.Need-overflow-add-t8
+add-t8 : tie.Need-overflow_add-result
 add-t8 c = search rules
 
-mul-t9 : tie.Need-overflow-mul-t9
+mul-t9 : tie.Need-offset_bounds-index-at-2
 mul-t9 c = search rules
 
-shared-slice-read-t11 : tie.Need-shared-slice-read-t11
+shared-slice-read-t11 : tie.Need-bounds-index-at-2
 shared-slice-read-t11 c = search rules
 
-add-t12 : tie.Need-overflow-add-t12
+add-t12 : tie.Need-overflow_add-result-2
 add-t12 c = search rules
 
-mul-t13 : tie.Need-overflow-mul-t13
+mul-t13 : tie.Need-offset_bounds-index-at-3
 mul-t13 c = search rules
 
-shared-slice-read-t15 : tie.Need-shared-slice-read-t15
+shared-slice-read-t15 : tie.Need-bounds-index-at-3
 shared-slice-read-t15 c = search rules
 
-add-t16 : tie.Need-overflow-add-t16
+add-t16 : tie.Need-overflow_add-result-3
 add-t16 c = search rules
 
-mul-t17 : tie.Need-overflow-mul-t17
+mul-t17 : tie.Need-offset_bounds-index-at-4
 mul-t17 c = search rules
 
-shared-slice-read-t19 : tie.Need-shared-slice-read-t19
+shared-slice-read-t19 : tie.Need-bounds-index-at-4
 shared-slice-read-t19 c = search rules
 
-add-t20 : tie.Need-overflow-add-t20
+add-t20 : tie.Need-overflow_add-result-4
 add-t20 c = search rules
 
-mul-t21 : tie.Need-overflow-mul-t21
+mul-t21 : tie.Need-offset_bounds-index-at-5
 mul-t21 c = search rules
 
-shared-slice-read-t23 : tie.Need-shared-slice-read-t23
+shared-slice-read-t23 : tie.Need-bounds-index-at-5
 shared-slice-read-t23 c = search rules
 
-level-of-requires : tie.Need-level-of-requires
+level-of-requires : tie.Need-level_of-requires
 level-of-requires c κs = search rules
 
-closing-of-requires : tie.Need-closing-of-requires
+closing-of-requires : tie.Need-closing_of-requires
 closing-of-requires c κs = search rules
 
-orphan-of-requires : tie.Need-orphan-of-requires
+orphan-of-requires : tie.Need-orphan_of-requires
 orphan-of-requires c κs = search rules
 
 returns : tie.Need-returns

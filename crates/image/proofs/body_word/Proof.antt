@@ -7,10 +7,10 @@ use Rattle.image.proofs.body_word.Lts as lts
 use Rattle.image.proofs.body_at.Reads as body-at-reads
 use Rattle.lists.proofs.get.Reads as get-reads
 
-body-at-requires : tie.Need-body-at-requires
+body-at-requires : tie.Need-body_at-requires
 body-at-requires c κs = search rules
 
-add-get : tie.Need-overflow-add-get
+add-get : tie.Need-overflow_add-body_at
 add-get c = search rules
 
 get-requires : tie.Need-get-requires
@@ -18,8 +18,8 @@ get-requires c κs = search rules
 
 returns : tie.Need-returns
 returns c =
-    let x = c.before.before.before.args in
-    c.get.ensures ∙ ap (λ (at : ℕ). get_or x.index.now (at + x.j) 0) c.before.body-at.ensures
+    let x = c.args in
+    c.get.ensures ∙ ap (λ (at : ℕ). get_or x.index.now (at + x.j) 0) c.body_at.ensures
 
 pub body_word_spec : {M : Type 1} → statement M
 body_word_spec = tie.close (tie.spec body-at-requires add-get get-requires returns)

@@ -7,14 +7,14 @@ use Rattle.image.proofs.numeral_at.Reads as reads
 use Rattle.image.proofs.numeral_at.Lts as lts
 use Rattle.image.proofs.body_word.Reads as body-word-reads
 
-body-word-requires : tie.Need-body-word-requires
+body-word-requires : tie.Need-body_word-requires
 body-word-requires c κs = search rules
 
 returns : tie.Need-returns
 returns c =
-    let x = c.before.before.args in
+    let x = c.args in
     let first : body_at x.rank + 0 ≡ body_at x.rank = omega arith in
-    c.body-word.ensures ∙ ap (λ (at : ℕ). get_or x.index.now at 0) first
+    c.body_word.ensures ∙ ap (λ (at : ℕ). get_or x.index.now at 0) first
 
 pub numeral_at_spec : {M : Type 1} → statement M
 numeral_at_spec = tie.close (tie.spec body-word-requires returns)

@@ -8,30 +8,30 @@ use Rattle.image.proofs.set_size.Reads as reads
 use Rattle.image.proofs.set_size.Lts as lts
 use Rattle.image.proofs.body_at.Reads as body-at-reads
 
-body-at-requires : tie.Need-body-at-requires
+body-at-requires : tie.Need-body_at-at-requires
 body-at-requires c κs = search rules
 
-add_at : tie.Need-overflow-add-at
+add_at : tie.Need-overflow_add-at
 add_at c = search rules
 
-mul-index : tie.Need-overflow-mul-index
+mul-index : tie.Need-offset_bounds-index-at
 mul-index c = search rules
 
-slice-write-index : tie.Need-slice-write-index
+slice-write-index : tie.Need-bounds-index-at
 slice-write-index c = search rules
 
-same_length : tie.Need-same-length
+same_length : tie.Need-shape_of-index
 same_length c = search rules
 
-returns : tie.Need-returns
+returns : tie.Need-returns-then-at-index
 returns c =
-    let x = c.before.before.before.args in
-    ap (λ (at : ℕ). set x.index.now (at + 2) x.size) c.before.body-at.ensures
+    let x = c.args in
+    ap (λ (at : ℕ). set x.index.now (at + 2) x.size) c.body_at-at.ensures
 
-returns-2 : tie.Need-returns-2
+returns-2 : tie.Need-returns-else-at-index
 returns-2 c =
-    let x = c.before.before.before.args in
-    sym (set_past x.index.now (body_at x.rank + 2) x.size (omega (arith, c.if1.false, c.before.body-at.ensures)))
+    let x = c.args in
+    sym (set_past x.index.now (body_at x.rank + 2) x.size (omega (arith, c.if-at-index.false, c.body_at-at.ensures)))
 
 pub set_size_spec : {M : Type 1} → statement M
 set_size_spec = tie.close (tie.spec body-at-requires add_at mul-index slice-write-index same_length returns returns-2)

@@ -6,16 +6,16 @@ use Rattle.image.proofs.word_of.Reads as reads
 use Rattle.image.proofs.word_of.Lts as lts
 use Rattle.image.proofs.part_at.Reads as part-at-reads
 
-part-at-requires : tie.Need-part-at-requires
+part-at-requires : tie.Need-part_at-requires
 part-at-requires c κs = search rules
 
-add-result : tie.Need-overflow-add-result
+add-result : tie.Need-overflow_add-result
 add-result c = search rules
 
-mul-result : tie.Need-overflow-mul-result
+mul-result : tie.Need-offset_bounds-index-part_at
 mul-result c = search rules
 
-shared-slice-read-result : tie.Need-shared-slice-read-result
+shared-slice-read-result : tie.Need-bounds-index-part_at
 shared-slice-read-result c = search rules
 
 returns : tie.Need-returns
