@@ -11,18 +11,18 @@ clear-requires : tie.Need-clear-requires
 clear-requires c κs = search rules
 
 -- src/lib.rt:43:1
-same_length : tie.Need-same-length
+same_length : tie.Need-shape_of-days
 same_length c = search rules
 
 -- src/lib.rt:43:1
-returns : tie.Need-returns
+returns : tie.Need-returns-then-built-ne0
 returns c =
-    when_some _ _ _ _ c.before.before.before.before.if1.true c.before.before.clear.ensures
+    when_some _ _ _ _ c.if-built-ne0.true c.clear.ensures
 
 -- src/lib.rt:43:1
-returns-2 : tie.Need-returns-2
+returns-2 : tie.Need-returns-else-built-ne0
 returns-2 c =
-    when_none _ _ _ c.if1.false
+    when_none _ _ _ c.if-built-ne0.false
 
 pub settle_days_spec : {M : Type 1} → statement M
 settle_days_spec = tie.close (tie.spec clear-requires same_length returns returns-2)
