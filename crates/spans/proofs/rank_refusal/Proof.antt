@@ -14,29 +14,29 @@ use Rattle.spans.proofs.rank_refusal.Reads as reads
 use Rattle.spans.proofs.rank_refusal.Lts as lts
 use Rattle.image.proofs.contents_refusal.Reads as contents-refusal-reads
 
-held : (c : tie.Else1) → bad_contents c.before.before.before.args.index.now ≡ false
-held c = contents_of _ (sym c.before.contents-refusal.ensures ∙ c.if1.false)
+held : (c : tie.Else-refusal-ne0) → bad_contents c.args.index.now ≡ false
+held c = contents_of _ (sym c.contents_refusal-refusal.ensures ∙ c.if-refusal-ne0.false)
 
-contents-refusal-requires : tie.Need-contents-refusal-requires
+contents-refusal-requires : tie.Need-contents_refusal-refusal-requires
 contents-refusal-requires c κs = search rules
 
-returns : tie.Need-returns
-returns c = cond_refused (bad_contents c.before.before.before.args.index.now) 13 _ _ c.before.contents-refusal.ensures c.if1.true
+returns : tie.Need-returns-then-refusal-ne0
+returns c = cond_refused (bad_contents c.args.index.now) 13 _ _ c.contents_refusal-refusal.ensures c.if-refusal-ne0.true
 
-returns-2 : tie.Need-returns-2
+returns-2 : tie.Need-returns-then-rank-eq0
 unfolding bad_rank
-returns-2 c = simp (held c.before, eq-eqb _ _ c.if2.true)
+returns-2 c = simp (held c.before, eq-eqb _ _ c.if-rank-eq0.true)
 
-shared-slice-read-if3 : tie.Need-shared-slice-read-if3
+shared-slice-read-if3 : tie.Need-bounds-index-0
 shared-slice-read-if3 c = omega (arith, (contents _ (held c.before.before)).long)
 
-returns-3 : tie.Need-returns-3
+returns-3 : tie.Need-returns-then-index-rank
 unfolding bad_rank
-returns-3 c = simp (held c.before.before.before, ne_eqb _ _ c.before.before.if2.false, lt-ltb _ _ c.if3.true)
+returns-3 c = simp (held c.before.before.before, ne_eqb _ _ c.if-rank-eq0.false, lt-ltb _ _ c.if-index-rank.true)
 
-returns-4 : tie.Need-returns-4
+returns-4 : tie.Need-returns
 unfolding bad_rank
-returns-4 c = simp (held c.before.before.before, ne_eqb _ _ c.before.before.if2.false, le-ltb _ _ c.if3.false)
+returns-4 c = simp (held c.before.before.before, ne_eqb _ _ c.if-rank-eq0.false, le-ltb _ _ c.if-index-rank.false)
 
 pub rank_refusal_spec : {M : Type 1} → statement M
 rank_refusal_spec =

@@ -18,61 +18,61 @@ use Rattle.image.proofs.body_at.Reads as body-at-reads
 use Rattle.image.proofs.body_of.Reads as body-of-reads
 use Rattle.spans.proofs.span_refusal.Reads as span-refusal-reads
 
-none : (c : tie.Else1) → span_refusal c.before.before.before.args.index.now c.before.before.before.args.rank ≡ 0
-none c = sym c.before.span-refusal.ensures ∙ c.if1.false
+none : (c : tie.Else-refusal-ne0) → span_refusal c.args.index.now c.args.rank ≡ 0
+none c = sym c.span_refusal-refusal.ensures ∙ c.if-refusal-ne0.false
 
-ok : (c : tie.Else1) → Span c.before.before.before.args.index.now c.before.before.before.args.rank
+ok : (c : tie.Else-refusal-ne0) → Span c.args.index.now c.args.rank
 ok c = span _ _ (none c)
 
-span-refusal-requires : tie.Need-span-refusal-requires
+span-refusal-requires : tie.Need-span_refusal-refusal-requires
 span-refusal-requires c κs = search rules
 
-sub-result : tie.Need-overflow-sub-result
+sub-result : tie.Need-slice_bounds-result-count
 sub-result c = search rules
 
-part-result-start : tie.Need-slice-bounds-result-start
+part-result-start : tie.Need-slice_bounds-result-start
 part-result-start c = search rules
 
-part-result-end : tie.Need-slice-bounds-result-end
+part-result-end : tie.Need-slice_bounds-result-end
 part-result-end c = search rules
 
-returns : tie.Need-returns
-returns c = simp (ne_eqb (span_refusal c.before.before.before.before.args.index.now c.before.before.before.before.args.rank) 0 (λ z. c.before.if1.true (c.before.before.span-refusal.ensures ∙ z)))
+returns : tie.Need-returns-then-refusal-ne0
+returns c = simp (ne_eqb (span_refusal c.args.index.now c.args.rank) 0 (λ z. c.if-refusal-ne0.true (c.span_refusal-refusal.ensures ∙ z)))
 
-body-of-requires : tie.Need-body-of-requires
+body-of-requires : tie.Need-body_of-body-requires
 body-of-requires c κs = omega (arith, ok c, (ok c).held)
 
-body-at-requires : tie.Need-body-at-requires
+body-at-requires : tie.Need-body_at-at-requires
 body-at-requires c κs = search rules
 
-add-bodies-end : tie.Need-overflow-add-bodies-end
-add-bodies-end c = omega (arith, ok c.before.before.before, (ok c.before.before.before).held, ap (λ (b : Body). b.size) c.before.before.body_of.ensures)
+add-bodies-end : tie.Need-overflow_add-rank
+add-bodies-end c = omega (arith, ok c.before.before.before, (ok c.before.before.before).held, ap (λ (b : Body). b.size) c.body_of-body.ensures)
 
-sub-bodies-end : tie.Need-overflow-sub-bodies-end
-sub-bodies-end c = omega (arith, ok c.before.before.before, ap (λ (b : Body). b.size) c.before.before.body_of.ensures)
+sub-bodies-end : tie.Need-overflow_sub-rank
+sub-bodies-end c = omega (arith, ok c.before.before.before, ap (λ (b : Body). b.size) c.body_of-body.ensures)
 
-bodies-end-requires : tie.Need-bodies-end-requires
+bodies-end-requires : tie.Need-bodies_end-end-requires
 bodies-end-requires c κs = search rules
 
-mul-result : tie.Need-overflow-mul-result
+mul-result : tie.Need-offset_bounds-index-at
 mul-result c = search rules
 
-sub-result-2 : tie.Need-overflow-sub-result-2
+sub-result-2 : tie.Need-slice_bounds-result-count-2
 sub-result-2 c = search rules
 
-part-result-start-2 : tie.Need-slice-bounds-result-start-2
+part-result-start-2 : tie.Need-slice_bounds-result-start-2
 part-result-start-2 c = search rules
 
-part-result-end-2 : tie.Need-slice-bounds-result-end-2
-part-result-end-2 c = omega (arith, ok c.before.before.before.before, (ok c.before.before.before.before).held, ap (λ (b : Body). b.size) c.before.before.before.body_of.ensures, c.bodies-end.ensures)
+part-result-end-2 : tie.Need-slice_bounds-result-end-2
+part-result-end-2 c = omega (arith, ok c.before.before.before.before, (ok c.before.before.before.before).held, ap (λ (b : Body). b.size) c.body_of-body.ensures, c.bodies_end-end.ensures)
 
-returns-2 : tie.Need-returns-2
+returns-2 : tie.Need-returns
 returns-2 c =
     let e = c.before.before.before.before.before in
-    let x = e.before.before.before.args in
+    let x = e.args in
     let s = x.index.now in
-    let at = c.before.before.before.body-at in
-    let m : c.before.bodies-end.result - at.result ≡ 6 * size_at s x.rank = omega (arith, ok e, ap (λ (b : Body). b.size) c.before.before.before.before.body_of.ensures, c.before.bodies-end.ensures, at.ensures) in
+    let at = c.body_at-at in
+    let m : c.bodies_end-end.result - at.result ≡ 6 * size_at s x.rank = omega (arith, ok e, ap (λ (b : Body). b.size) c.body_of-body.ensures, c.bodies_end-end.ensures, at.ensures) in
     simp (eq-eqb (span_refusal s x.rank) 0 (none e)) (ap (λ (m : ℕ). take m (drop at.result s)) m ∙ ap (λ (a : ℕ). take (6 * size_at s x.rank) (drop a s)) at.ensures)
 
 pub span_spec : {M : Type 1} → statement M
