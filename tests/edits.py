@@ -1,5 +1,5 @@
 #!/usr/bin/env python3
-"""Whether every must-fail edit can be applied: it has a sentence, a file, and texts that the file has once each, on one line.
+"""Whether every must-fail edit can be applied: it has a sentence, a file, and texts that the file, as the texts before made it, has once each, on one line.
 
     tests/edits.py     prints how many there are; fails where one can't be applied
 
@@ -18,7 +18,7 @@ def faults(path):
         lines = edit.read().splitlines()
     if not lines or lines[0].startswith(("file: ", "old: ", "new: ")):
         yield "doesn't begin with a sentence"
-    source, kinds = "", collections.Counter()
+    source, old, kinds = "", "", collections.Counter()
     for line in lines[1:]:
         kind, _, text = line.partition(": ")
         kinds[kind] += 1
@@ -30,10 +30,14 @@ def faults(path):
             with open(path, encoding="utf-8") as file:
                 source = file.read()
         elif kind == "old":
-            times = source.count(text)
+            old, times = text, source.count(text)
             if times != 1:
                 yield f"the file has this {times} times: {text}"
-        elif kind != "new":
+        elif kind == "new":
+            if text == old:
+                yield f"changes nothing: {text}"
+            source = source.replace(old, text) if old else source
+        else:
             yield f"no line of an edit: {line}"
     if not kinds["file"] or not kinds["old"] or kinds["old"] != kinds["new"]:
         yield "has no file, or not a new text for each old one"
