@@ -156,7 +156,7 @@ module _ (b : Board) (places : length b.rows ≡ 1024) (sound : sound_of b ≡ t
   new_minutes x = ap (λ Q. (row Q x).minutes) rows ∙ minutes_new R k there d x
 
   few : length R ≤ 1024
-  few = paths.sound-few b sound
+  few = paths.sound_few b sound
 
   module _ (rule : Start) (list : List ℕ) where
     abbrev start : Row → Bool

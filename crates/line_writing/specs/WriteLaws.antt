@@ -435,7 +435,7 @@ module _ (s : List ℕ) (w : ℕ) (narrow : w ≤ 8) (line : Line) (placed : InP
   -- out of a line
   pub leave : (c n parent root : ℕ) (parents : List ℕ) → 0 < w → w ≤ c → Writing (sorted_lines s w) line.place c n parent root parents → Between (sorted_lines s w) (line.place + 1) n root parents
   leave c n parent root parents some h v =
-      let e : length l ≡ c = omega (arith, v.in-line, line_wide) in
+      let e : length l ≡ c = omega (arith, v.in_line, line_wide) in
       let p : line_beside L (i + 1) ≡ l = prev_next L i in
       record {
         rest = v.rest ∙ ap (λ q. q ++ pass_at L (i + 1)) (longer_end c l (omega arith));

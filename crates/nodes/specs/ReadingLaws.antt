@@ -14,5 +14,5 @@ pub rank_order : (R : List Row) (start : Row → Bool) (depth : Depth) (o : Orph
     → NodeBefore R start (entries_of R start depth o) depth o p q ↔ (rank_of (nodes R start depth o) p < rank_of (nodes R start depth o) q)
 rank_order R start depth o p q n m =
     let es : List ℕ = entries_of R start depth o in
-    forest.rank-order (nodes_forest R start depth o) (NodeBefore R start es depth o) (node_before_asym R start depth es o) (nodes_ordered R start depth o) p q
+    forest.rank_order (nodes_forest R start depth o) (NodeBefore R start es depth o) (node_before_asym R start depth es o) (nodes_ordered R start depth o) p q
     ((nodes_are R start depth o p).1 n) ((nodes_are R start depth o q).1 m)

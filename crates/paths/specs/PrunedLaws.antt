@@ -69,7 +69,7 @@ module _ {S : Type 0} (enter : S → ℕ → S) (alive : S → Bool) (num par : 
   unfolding emit_pruned emit
   emit_all mk Full on h zero seen s sibs parent root level k full = refl
   emit_all {B} mk Full on h (suc f) seen s sibs parent root level k full =
-      ap (λ l. walk mk num par pool _ l k) (filter_all (λ x. alive (enter s x)) sibs (λ x m. h (enter s x) (on s x full)))
+      ap (λ l. walk mk num par pool (λ x k. visit mk num par pool parent root level seen (λ k. emit_pruned enter alive num par pool mk f (num x ∷ seen) (enter s x) (next num par pool seen x) k (or_else root k) (suc level) (suc k)) x k) l k) (filter_all (λ x. alive (enter s x)) sibs (λ x m. h (enter s x) (on s x full)))
       ∙ agree (λ x k. ap (λ (sub : List B). mk x (suc (length sub)) parent (or_else root k) level (memb (num x) seen) ∷ sub)
       (emit_all mk Full on h f (num x ∷ seen) (enter s x) (next num par pool seen x) k (or_else root k) (suc level) (suc k) (on s x full))) sibs k
     where
@@ -148,7 +148,7 @@ module _ {S : Type 0} (enter : S → ℕ → S) (alive : S → Bool) {B : Type 0
           sizes = sizes';
           parent_is = rank_own;
           root_is = root'.0;
-          level_is = ap suc o.level-is ∙ omega (arith, length-append pre (x ∷ []));
+          level_is = ap suc o.level_is ∙ omega (arith, length-append pre (x ∷ []));
           closing = λ q y. ap cl (append_assoc pre (x ∷ []) (q ++ y ∷ [])) ∙ o.closing (x ∷ q) y;
         }
 
@@ -165,7 +165,7 @@ module _ {S : Type 0} (enter : S → ℕ → S) (alive : S → Bool) {B : Type 0
                 ∙ ap suc (sym (ap length below ∙ length-map (map (λ q. (pre ++ x ∷ []) ++ q) F) body_of ∙ length-map F (λ q. (pre ++ x ∷ []) ++ q)))
 
             depth : length pre' ≡ level
-            depth = omega (arith, length-append pre (x ∷ []), o.level-is)
+            depth = omega (arith, length-append pre (x ∷ []), o.level_is)
 
     living_distinct : (seen : List ℕ) (s : S) (x : ℕ) → Increasing (λ u v. u ≢ v) (living enter alive s (next num par pool seen x))
     living_distinct seen s x = increasing_filter (λ u v. u ≢ v) (λ y. alive (enter s y)) (next num par pool seen x) (next_distinct mk num par pool W cl distinct pool-distinct seen x)

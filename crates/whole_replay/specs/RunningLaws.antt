@@ -78,7 +78,7 @@ module _ (done : Replayed) (asked : Asked) (starts : Row → Bool) (index : List
 
   -- an answer that bears no number of the replay
   runs_replayed : (answer : ReplayedAll) (i : List ℕ) (t : List ℤ) (d o : List ℕ) → Run answer i t d o → answer.replayed ≡ 0 → done.refusal ≡ 0
-  runs_replayed answer i t d o r z = go (eqb done.refusal 0) refl _ r.answer-is
+  runs_replayed answer i t d o r z = go (eqb done.refusal 0) refl _ r.answer_is
     where
       go : (b : Bool) → eqb done.refusal 0 ≡ b → (x : ReplayedAll) → answer ≡ cond b x (not_replayed done.refusal) → done.refusal ≡ 0
       go true q x e = eqb-true done.refusal 0 q
@@ -207,4 +207,4 @@ module _ (words refusals : List ℕ) (asked : Asked) (rule : Start) (list index 
       let none = runs_replayed (replayed_of words (length refusals)) asked s index totals days rank lower upper out answer index' totals' days' out' r z in
       let no = replayed_zero words (length refusals) none in
       let full = runs_moved _ _ (replayed_is words (length refusals) no) asked s index totals days rank lower upper out answer index' totals' days' out' r in
-      moved _ _ _ _ _ _ _ _ _ _ _ _ full.answer-is (er ∙ (replay_simulates words refusals no).refusals) full.index_is full.totals-is full.days-is full.out-is (claim (guarantee cs) w)
+      moved _ _ _ _ _ _ _ _ _ _ _ _ full.answer_is (er ∙ (replay_simulates words refusals no).refusals) full.index_is full.totals_is full.days_is full.out_is (claim (guarantee cs) w)

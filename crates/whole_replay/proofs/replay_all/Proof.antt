@@ -39,7 +39,7 @@ returns c =
     let demand =
     replay_all_guaranteed a.words.now a.refusals.now a.options.asked a.options.start a.list.now a.index.now a.totals.now a.days.now a.question.rank a.question.lower a.question.upper a.out.now _ _ _ _ _ _
     runs p.1 (λ k. (c.before.before.before.before.before.before.before.before.before.before.before.shared-slice-known.given k).fits) in
-    (runs.answer-is, (p.1, (runs.index_is, (runs.totals-is, (runs.days-is, (runs.out-is, demand))))))
+    (runs.answer_is, (p.1, (runs.index_is, (runs.totals_is, (runs.days_is, (runs.out_is, demand))))))
 
 -- src/lib.rt:101:9
 build-asked-requires : tie.Need-build-asked-requires
@@ -87,7 +87,7 @@ returns-2 c =
     let demand =
     replay_all_guaranteed a.words.now a.refusals.now a.options.asked a.options.start a.list.now a.index.now a.totals.now a.days.now a.question.rank a.question.lower a.question.upper a.out.now _ _ _ _ _ _
     runs p.1 (λ k. (c.before.before.before.before.before.before.before.before.before.before.before.before.before.before.before.before.before.before.before.before.before.before.before.before.before.before.before.before.before.before.shared-slice-known.given k).fits) in
-    (runs.answer-is, (p.1, (runs.index_is, (runs.totals-is, (runs.days-is, (runs.out-is, demand))))))
+    (runs.answer_is, (p.1, (runs.index_is, (runs.totals_is, (runs.days_is, (runs.out_is, demand))))))
 
 pub replay_all_spec : {M : Type 1} → statement M
 replay_all_spec =
