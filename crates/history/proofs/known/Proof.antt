@@ -11,45 +11,45 @@ use Prim.Native.Nat.{ℕ, ◌≤◌, ◌<◌, ◌-◌}
 use Rattle.history.proofs.known.Statement.{statement}
 use Rattle.history.proofs.known.Tie as tie
 
-abbrev invariant-loop : tie.invariant-loop
+abbrev invariant-loop : tie.invariant-loop-i
 invariant-loop words n i₀ i = (i ≤ n) × (all_known words i ≡ true)
 
-abbrev decreases-loop : tie.decreases-loop
+abbrev decreases-loop : tie.decreases-loop-i
 decreases-loop words n i₀ i = n - i
 
-loop-holds : tie.Need-loop-init invariant-loop decreases-loop
+loop-holds : tie.Need-loop-i-init invariant-loop decreases-loop
 loop-holds c = (omega arith, refl)
 
-mul-get : tie.Need-overflow-mul-get invariant-loop decreases-loop
+mul-get : tie.Need-overflow_mul-i invariant-loop decreases-loop
 mul-get c = search rules
 
 get-requires : tie.Need-get-requires invariant-loop decreases-loop
 get-requires c κs = search rules
 
-returns : tie.Need-returns invariant-loop decreases-loop
+returns : tie.Need-returns-then-get-gt4 invariant-loop decreases-loop
 returns c =
-    let a = c.before.before.before.before.before.args in
-    let l = c.before.before.before.loop in
-    let k : 4 < kind_at a.words.now l.i = subst (λ (m : ℕ). 4 < m) c.before.get.ensures c.if1.true in
-    sym (known_not a.words.now a.n l.i c.before.before.loop-test.true (lt-leb (kind_at a.words.now l.i) 4 k))
+    let a = c.args in
+    let l = c.loop-i in
+    let k : 4 < kind_at a.words.now l.i = subst (λ (m : ℕ). 4 < m) c.get.ensures c.if-get-gt4.true in
+    sym (known_not a.words.now a.n l.i c.loop-i-test.true (lt-leb (kind_at a.words.now l.i) 4 k))
 
-add-i : tie.Need-overflow-add-i invariant-loop decreases-loop
+add-i : tie.Need-overflow_add-i invariant-loop decreases-loop
 add-i c = search rules
 
-loop-less : tie.Need-loop-smaller invariant-loop decreases-loop
+loop-less : tie.Need-loop-i-smaller invariant-loop decreases-loop
 loop-less c = search rules
 
-loop-again : tie.Need-loop-preserved invariant-loop decreases-loop
+loop-again : tie.Need-loop-i-preserved invariant-loop decreases-loop
 loop-again c =
-    let a = c.before.before.before.before.before.args in
-    let l = c.before.before.before.loop in
-    let k : kind_at a.words.now l.i ≤ 4 = subst (λ (m : ℕ). m ≤ 4) c.before.get.ensures c.if1.false in
+    let a = c.args in
+    let l = c.loop-i in
+    let k : kind_at a.words.now l.i ≤ 4 = subst (λ (m : ℕ). m ≤ 4) c.get.ensures c.if-get-gt4.false in
     (omega arith, rw add-one (simp (l.invariant.1, le-leb (kind_at a.words.now l.i) 4 k)))
 
-returns-2 : tie.Need-returns-2 invariant-loop decreases-loop
+returns-2 : tie.Need-returns invariant-loop decreases-loop
 returns-2 c =
-    let a = c.before.before.before.args in
-    let l = c.before.loop in
+    let a = c.args in
+    let l = c.loop-i in
     let e : a.n ≡ l.i = omega arith in
     sym (ap (λ (m : ℕ). all_known a.words.now m) e ∙ l.invariant.1)
 
