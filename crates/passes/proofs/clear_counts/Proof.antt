@@ -10,61 +10,61 @@ use lib.ListN.{length}
 use Rattle.passes.proofs.clear_counts.Statement.{statement}
 use Rattle.passes.proofs.clear_counts.Tie as tie
 
-abbrev invariant-loop : tie.invariant-loop
+abbrev invariant-loop : tie.invariant-loop-c
 invariant-loop table₀ c₀ table c = Filled 4 (λ p. 0) table₀ table c × (c ≤ length table₀ / 8)
 
-abbrev decreases-loop : tie.decreases-loop
+abbrev decreases-loop : tie.decreases-loop-c
 decreases-loop table₀ c₀ table c = length table₀ / 8 - c
 
 -- src/lib.rt:102:5
-loop-holds : tie.Need-loop-init invariant-loop decreases-loop
+loop-holds : tie.Need-loop-c-init invariant-loop decreases-loop
 loop-holds c =
     (filled_start 4 _ _, omega arith)
 
 -- src/lib.rt:102:12
-cast-if1 : tie.Need-overflow-cast-if1 invariant-loop decreases-loop
+cast-if1 : tie.Need-overflow_cast-c invariant-loop decreases-loop
 cast-if1 c =
-    omega (arith, c.loop.invariant.1, c.loop.invariant.0.long, c.before.before.requires, column_length 0 c.before.before.args.table.now)
+    omega (arith, c.loop-c.invariant.1, c.loop-c.invariant.0.long, c.requires, column_length 0 c.args.table.now)
 
 -- src/lib.rt:102:26
 rows-requires : tie.Need-rows-requires invariant-loop decreases-loop
 rows-requires c κs = search rules
 
 -- src/lib.rt:103:9
-set-next-requires : tie.Need-set-next-requires invariant-loop decreases-loop
+set-next-requires : tie.Need-set_next-requires invariant-loop decreases-loop
 set-next-requires c κs =
-    omega (arith, c.before.if1.true, c.before.before.rows.ensures 4)
+    omega (arith, c.loop-c-test.true, c.rows.ensures 4)
 
 -- src/lib.rt:104:9
-add-c : tie.Need-overflow-add-c invariant-loop decreases-loop
+add-c : tie.Need-overflow_add-c invariant-loop decreases-loop
 add-c c =
-    omega (arith, c.before.before.before.before.before.before.before.loop.invariant.1, c.before.before.before.before.before.before.before.before.before.requires, column_length 0 c.before.before.before.before.before.before.before.before.before.args.table.now)
+    omega (arith, c.loop-c.invariant.1, c.requires, column_length 0 c.args.table.now)
 
 -- src/lib.rt:102:5
-loop-less : tie.Need-loop-smaller invariant-loop decreases-loop
+loop-less : tie.Need-loop-c-smaller invariant-loop decreases-loop
 loop-less c =
-    let i = c.before.before.before.before.before.before.before.loop.invariant in
-    let lt : c.before.before.before.before.before.before.before.loop.c < length c.before.before.before.before.before.before.before.before.before.args.table.now / 8 = omega (arith, c.before.before.before.before.if1.true, c.before.before.before.before.before.rows.ensures 0, column_length 0 c.before.before.before.before.before.before.before.loop.table, i.0.long) in
+    let i = c.loop-c.invariant in
+    let lt : c.loop-c.c < length c.args.table.now / 8 = omega (arith, c.loop-c-test.true, c.rows.ensures 0, column_length 0 c.loop-c.table, i.0.long) in
     omega arith
 
 -- src/lib.rt:102:5
-loop-again : tie.Need-loop-preserved invariant-loop decreases-loop
+loop-again : tie.Need-loop-c-preserved invariant-loop decreases-loop
 loop-again c =
-    let i = c.before.before.before.before.before.before.before.loop.invariant in
-    let lt : c.before.before.before.before.before.before.before.loop.c < length c.before.before.before.before.before.before.before.before.before.args.table.now / 8 = omega (arith, c.before.before.before.before.if1.true, c.before.before.before.before.before.rows.ensures 0, column_length 0 c.before.before.before.before.before.before.before.loop.table, i.0.long) in
-    (filled_step 4 _ _ _ _ _ _ lt refl c.before.before.set_next.ensures i.0, omega arith)
+    let i = c.loop-c.invariant in
+    let lt : c.loop-c.c < length c.args.table.now / 8 = omega (arith, c.loop-c-test.true, c.rows.ensures 0, column_length 0 c.loop-c.table, i.0.long) in
+    (filled_step 4 _ _ _ _ _ _ lt refl c.set_next.ensures i.0, omega arith)
 
 -- src/lib.rt:97:1
-same_length : tie.Need-same-length invariant-loop decreases-loop
+same_length : tie.Need-shape_of-table invariant-loop decreases-loop
 same_length c =
-    c.before.before.before.loop.invariant.0.long
+    c.loop-c.invariant.0.long
 
 -- src/lib.rt:97:1
 returns : tie.Need-returns invariant-loop decreases-loop
 returns c =
-    let i = c.before.before.before.loop.invariant in
-    let t = c.before.before.before.before.before.args.table.now in
-    let past : length t / 8 ≤ c.before.before.before.loop.c = omega (arith, c.if1.false, c.before.rows.ensures 0, column_length 0 c.before.before.before.loop.table, i.0.long) in
+    let i = c.loop-c.invariant in
+    let t = c.args.table.now in
+    let past : length t / 8 ≤ c.loop-c.c = omega (arith, c.loop-c-test.false, c.rows.ensures 0, column_length 0 c.loop-c.table, i.0.long) in
     record { long = i.0.long; clear = filled_end 4 _ _ _ _ past i.0 ∙ zeros_are _ _ (column_length 4 t); others = i.0.others }
 
 pub clear_counts_spec : {M : Type 1} → statement M
