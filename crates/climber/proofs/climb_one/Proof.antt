@@ -16,44 +16,44 @@ use Rattle.climber.proofs.answer.Reads as answer-reads
 use Rattle.image.proofs.body_of.Reads as body-of-reads
 use Rattle.spans.proofs.rank_refusal.Reads as rank-refusal-reads
 
-none : (c : tie.Else1) → rank_refusal c.before.before.before.args.index.now c.before.before.before.args.rank ≡ 0
-none c = sym c.before.rank-refusal.ensures ∙ c.if1.false
+none : (c : tie.Else-refusal-ne0) → rank_refusal c.args.index.now c.args.rank ≡ 0
+none c = sym c.rank_refusal-refusal.ensures ∙ c.if-refusal-ne0.false
 
-rank-refusal-requires : tie.Need-rank-refusal-requires
+rank-refusal-requires : tie.Need-rank_refusal-refusal-requires
 rank-refusal-requires c κs = search rules
 
 answer-requires : tie.Need-answer-requires
 answer-requires c κs = search rules
 
-returns : tie.Need-returns
-returns c = c.answer.ensures ∙ one_refused _ _ _ c.before.before.rank-refusal.ensures c.before.if1.true
+returns : tie.Need-returns-then-refusal-ne0
+returns c = c.answer.ensures ∙ one_refused _ _ _ c.rank_refusal-refusal.ensures c.if-refusal-ne0.true
 
-body-of-requires : tie.Need-body-of-requires
+body-of-requires : tie.Need-body_of-parent-requires
 body-of-requires c κs = let r = ranked _ _ (none c) in omega (arith, r, r.held)
 
-answer-requires-2 : tie.Need-answer-requires-2
+answer-requires-2 : tie.Need-answer-requires-then-rank-parent
 answer-requires-2 c κs = search rules
 
-returns-2 : tie.Need-returns-2
+returns-2 : tie.Need-returns-then-rank-parent
 returns-2 c =
-    let e = ap (λ (n : Body). n.parent) c.before.before.body_of.ensures in
-    c.answer2.ensures ∙ one_broken _ _ (none c.before.before.before) (rw (sym e) c.before.if2.true)
+    let e = ap (λ (n : Body). n.parent) c.body_of-parent.ensures in
+    c.answer-then-rank-parent.ensures ∙ one_broken _ _ (none c.before.before.before) (rw (sym e) c.if-rank-parent.true)
 
-answer-requires-3 : tie.Need-answer-requires-3
+answer-requires-3 : tie.Need-answer-requires-then-parent-eq0
 answer-requires-3 c κs = search rules
 
-returns-3 : tie.Need-returns-3
+returns-3 : tie.Need-returns-then-parent-eq0
 returns-3 c =
-    let e = ap (λ (n : Body). n.parent) c.before.before.before.body_of.ensures in
-    c.answer3.ensures ∙ one_root _ _ (none c.before.before.before.before) (rw (sym e) c.before.before.if2.false) (sym e ∙ c.before.if3.true)
+    let e = ap (λ (n : Body). n.parent) c.body_of-parent.ensures in
+    c.answer-then-parent-eq0.ensures ∙ one_root _ _ (none c.before.before.before.before) (rw (sym e) c.if-rank-parent.false) (sym e ∙ c.if-parent-eq0.true)
 
-answer-requires-4 : tie.Need-answer-requires-4
+answer-requires-4 : tie.Need-answer-requires-2
 answer-requires-4 c κs = search rules
 
-returns-4 : tie.Need-returns-4
+returns-4 : tie.Need-returns
 returns-4 c =
-    let e = ap (λ (n : Body). n.parent) c.before.before.before.body_of.ensures in
-    c.answer4.ensures ∙ ap (answer 0 false) e ∙ one_up _ _ (none c.before.before.before.before) (rw (sym e) c.before.before.if2.false) (λ z. c.before.if3.false (e ∙ z))
+    let e = ap (λ (n : Body). n.parent) c.body_of-parent.ensures in
+    c.answer-2.ensures ∙ ap (answer 0 false) e ∙ one_up _ _ (none c.before.before.before.before) (rw (sym e) c.if-rank-parent.false) (λ z. c.if-parent-eq0.false (e ∙ z))
 
 pub climb_one_spec : {M : Type 1} → statement M
 climb_one_spec =
