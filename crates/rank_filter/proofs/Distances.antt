@@ -28,7 +28,7 @@ distance_is a b h h' =
     ∙ to_z-of_z (difference_fits a b h h')
 
 limit_is : {z : ℤ} → SFits w32 z → to_z w64 (of_z w64 (to_z w32 (of_z w32 z))) ≡ z
-limit_is h = ap (λ (x : ℤ). to_z w64 (of_z w64 x)) (to_z-of_z h) ∙ to_z-of_z (sfits_widen tt h)
+limit_is h = ap (λ (x : ℤ). to_z w64 (of_z w64 x)) (to_z-of_z h) ∙ to_z-of_z {w = w64} (sfits_widen {w = w32} {w' = w64} tt h)
 
 module _ (a b : ℕ) {z : ℤ} (h : a < 2 ^ 32) (h' : b < 2 ^ 32) (k : SFits w32 z) where
   pub lower : le_z (to_z w64 (of_z w64 (to_z w32 (of_z w32 z)))) (to_z w64 (of_z w64 (to_z w64 a -ℤ to_z w64 b))) ≡ le_z z (pos a -ℤ pos b)

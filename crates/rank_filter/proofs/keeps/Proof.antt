@@ -21,41 +21,39 @@ use Rattle.packed.proofs.level_of.Reads as level-of-reads
 use Rattle.image.proofs.word_of.Reads as word-of-reads
 use Rattle.rank_filter.proofs.is_within.Reads as is-within-reads
 
-enum-known-keep : tie.Need-enum-known-keep
+enum-known-keep : tie.Need-enum_known-keep
 enum-known-keep c = search rules
 
-word-of-requires : tie.Need-word-of-requires
+word-of-requires : tie.Need-word_of-requires
 word-of-requires c κs = search rules
 
-level-of-requires : tie.Need-level-of-requires
+level-of-requires : tie.Need-level_of-requires
 level-of-requires c κs = search rules
 
-is-within-requires : tie.Need-is-within-requires
+is-within-requires : tie.Need-is_within-requires
 is-within-requires c κs = search rules
 
-enum-known-keep-2 : tie.Need-enum-known-keep-2
+enum-known-keep-2 : tie.Need-enum_known-keep-in-Under-1
 enum-known-keep-2 c = search rules
 
-body-of-requires : tie.Need-body-of-requires
+body-of-requires : tie.Need-body_of-requires
 body-of-requires c κs = search rules
 
-returns : tie.Need-returns
+returns : tie.Need-returns-in-Within
 returns c =
-    let x = c.before.before.before.before.before.before.before.args in
-    let v = c.before.before.before.before.keep.given in
-    let lo : to_z w32 (of_z w32 v.0.1.0) ≡ v.0.1.0 = search rules in
-    let hi : to_z w32 (of_z w32 v.0.1.1.0) ≡ v.0.1.1.0 = search rules in
-    c.is_Within.ensures
-    ∙ ap (λ (n : ℕ). within (to_z w32 (of_z w32 v.0.1.0)) (to_z w32 (of_z w32 v.0.1.1.0)) (pos n -ℤ pos v.0.0)) (c.before.level-of.ensures ∙ ap level_of c.before.before.word_of.ensures)
-    ∙ ap (λ (z : ℤ). within z (to_z w32 (of_z w32 v.0.1.1.0)) (pos (level_at x.index.now x.k) -ℤ pos v.0.0)) lo
-    ∙ ap (λ (z : ℤ). within v.0.1.0 z (pos (level_at x.index.now x.k) -ℤ pos v.0.0)) hi
-    ∙ sym (ap (λ (q : Keep). keeps_at x.index.now q x.k) v.1)
+    let x = c.args in
+    let lo : to_z w32 (of_z w32 c.in-Within.lo) ≡ c.in-Within.lo = search rules in
+    let hi : to_z w32 (of_z w32 c.in-Within.hi) ≡ c.in-Within.hi = search rules in
+    c.is_within.ensures
+    ∙ ap (λ (n : ℕ). within (to_z w32 (of_z w32 c.in-Within.lo)) (to_z w32 (of_z w32 c.in-Within.hi)) (pos n -ℤ pos c.in-Within.base)) (c.level_of.ensures ∙ ap level_of c.word_of.ensures)
+    ∙ ap (λ (z : ℤ). within z (to_z w32 (of_z w32 c.in-Within.hi)) (pos (level_at x.index.now x.k) -ℤ pos c.in-Within.base)) lo
+    ∙ ap (λ (z : ℤ). within c.in-Within.lo z (pos (level_at x.index.now x.k) -ℤ pos c.in-Within.base)) hi
+    ∙ sym (ap (λ (q : Keep). keeps_at x.index.now q x.k) c.in-Within.is)
 
-returns-2 : tie.Need-returns-2
+returns-2 : tie.Need-returns-in-Under
 returns-2 c =
-    let x = c.before.before.before.before.before.before.args in
-    let v = c.before.before.before.keep2.given in
-    ap (λ (b : Body). eqb b.parent v.0.0) c.before.body_of.ensures ∙ sym (ap (λ (q : Keep). keeps_at x.index.now q x.k) v.1)
+    let x = c.args in
+    ap (λ (b : Body). eqb b.parent c.in-Under.parent) c.body_of.ensures ∙ sym (ap (λ (q : Keep). keeps_at x.index.now q x.k) c.in-Under.is)
 
 pub keeps_spec : {M : Type 1} → statement M
 keeps_spec =
