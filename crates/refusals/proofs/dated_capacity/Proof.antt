@@ -10,11 +10,11 @@ use Rattle.refusals.proofs.capacity.Reads as capacity-reads
 use Rattle.refusals.proofs.smaller.Reads as smaller-reads
 
 -- src/lib.rt:30:16
-capacity-requires : tie.Need-capacity-requires
+capacity-requires : tie.Need-capacity-held-requires
 capacity-requires c κs = search rules
 
 -- src/lib.rt:30:16
-cast-held : tie.Need-overflow-cast-held
+cast-held : tie.Need-overflow_cast-held
 cast-held c = search rules
 
 -- src/lib.rt:31:5
@@ -22,14 +22,14 @@ smaller-requires : tie.Need-smaller-requires
 smaller-requires c κs = search rules
 
 -- src/lib.rt:31:5
-cast-result : tie.Need-overflow-cast-result
+cast-result : tie.Need-overflow_cast-result
 cast-result c = search rules
 
 -- src/lib.rt:26:1
 returns : tie.Need-returns
 unfolding dated_capacity_of
 returns c =
-    c.smaller.ensures ∙ ap (λ (k : ℕ). min k (c.before.before.args.days / 2)) c.before.capacity.ensures
+    c.smaller.ensures ∙ ap (λ (k : ℕ). min k (c.args.days / 2)) c.capacity-held.ensures
 
 pub dated_capacity_spec : {M : Type 1} → statement M
 dated_capacity_spec =
