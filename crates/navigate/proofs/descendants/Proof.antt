@@ -25,44 +25,44 @@ use Rattle.spans.proofs.span_refusal.Reads as span-refusal-reads
 abbrev refused : ℕ → Listed
 refused q = record { refusal = q; len = 0 }
 
-none : (c : tie.Else1) → span_refusal c.before.before.before.before.args.index.now c.before.before.before.before.args.rank ≡ 0
-none c = sym c.before.span-refusal.ensures ∙ c.if1.false
+none : (c : tie.Else-refusal-ne0) → span_refusal c.args.index.now c.args.rank ≡ 0
+none c = sym c.span_refusal-refusal.ensures ∙ c.if-refusal-ne0.false
 
-ok : (c : tie.Else1) → Span c.before.before.before.before.args.index.now c.before.before.before.before.args.rank
+ok : (c : tie.Else-refusal-ne0) → Span c.args.index.now c.args.rank
 ok c = span _ _ (none c)
 
-span-refusal-requires : tie.Need-span-refusal-requires
+span-refusal-requires : tie.Need-span_refusal-refusal-requires
 span-refusal-requires c κs = search rules
 
-returns : tie.Need-returns
+returns : tie.Need-returns-then-refusal-ne0
 returns c =
-    let x = c.before.before.before.before.args in
-    let e = c.before.span-refusal.ensures in
+    let x = c.args in
+    let e = c.span_refusal-refusal.ensures in
     let l = descendant_list x.index.now x.rank x.lo x.hi in
-    let a = list_refused (span_refusal x.index.now x.rank) l x.out.now (λ z. c.if1.true (e ∙ z)) in
+    let a = list_refused (span_refusal x.index.now x.rank) l x.out.now (λ z. c.if-refusal-ne0.true (e ∙ z)) in
     (ap refused e ∙ a.0, a.1)
 
-body-of-requires : tie.Need-body-of-requires
+body-of-requires : tie.Need-body_of-body-requires
 body-of-requires c κs = omega (arith, ok c, (ok c).held)
 
-cast-size : tie.Need-overflow-cast-size
+cast-size : tie.Need-overflow_cast-size
 cast-size c = search rules
 
-list-kept-requires : tie.Need-list-kept-requires
-list-kept-requires c κs = omega (arith, ok c.before.before.before, (ok c.before.before.before).held, ap (λ (b : Body). b.size) c.before.before.body_of.ensures)
+list-kept-requires : tie.Need-list_kept-requires
+list-kept-requires c κs = omega (arith, ok c.before.before.before, (ok c.before.before.before).held, ap (λ (b : Body). b.size) c.body_of-body.ensures)
 
-same_length : tie.Need-same-length
+same_length : tie.Need-shape_of-out
 same_length c = search rules
 
-returns-2 : tie.Need-returns-2
+returns-2 : tie.Need-returns
 unfolding descendant_list
 returns-2 c =
     let e = c.before.before.before.before.before.before in
-    let x = e.before.before.before.before.args in
+    let x = e.args in
     let s = x.index.now in
-    let p = c.before.before.list-kept.ensures in
-    let body = c.before.before.before.before.before.body_of in
-    let k = within_eq (ap (λ (b : Body). b.level) body.ensures) e.before.before.before.before.ranges.lo e.before.before.before.before.ranges.hi in
+    let p = c.list_kept.ensures in
+    let body = c.body_of-body in
+    let k = within_eq (ap (λ (b : Body). b.level) body.ensures) e.ranges.lo e.ranges.hi in
     let z = ap (λ (b : Body). b.size) body.ensures in (
       p.0
           ∙ ap (λ (b : Keep). list_answer 0 (filter (keeps_at s b) (numbers x.rank body.result.size)) x.out.now) k

@@ -11,25 +11,25 @@ use Rattle.navigate.proofs.list_kept.Lts as lts
 use Rattle.navigate.proofs.count_kept.Reads as count-kept-reads
 use Rattle.navigate.proofs.write_kept.Reads as write-kept-reads
 
-count-kept-requires : tie.Need-count-kept-requires
+count-kept-requires : tie.Need-count_kept-count-requires
 count-kept-requires c κs = search rules
 
-returns : tie.Need-returns
+returns : tie.Need-returns-then-out-count
 returns c =
-    let x = c.before.before.before.before.args in
-    list_long (filter (keeps_at x.index.now x.keep) (numbers x.r x.size)) x.out.now (omega (arith, c.before.count_kept.ensures))
+    let x = c.args in
+    list_long (filter (keeps_at x.index.now x.keep) (numbers x.r x.size)) x.out.now (omega (arith, c.count_kept-count.ensures))
 
-write-kept-requires : tie.Need-write-kept-requires
+write-kept-requires : tie.Need-write_kept-written-requires
 write-kept-requires c κs = search rules
 
-same_length : tie.Need-same-length
+same_length : tie.Need-shape_of-out
 same_length c = search rules
 
-returns-2 : tie.Need-returns-2
+returns-2 : tie.Need-returns
 returns-2 c =
     let e = c.before.before.before.before in
-    let x = e.before.before.before.before.args in
-    list_fits _ (filter (keeps_at x.index.now x.keep) (numbers x.r x.size)) x.out.now _ (omega (arith, e.before.count_kept.ensures)) c.before.before.write-Kept.ensures.0 c.before.before.write-Kept.ensures.1
+    let x = e.args in
+    list_fits _ (filter (keeps_at x.index.now x.keep) (numbers x.r x.size)) x.out.now _ (omega (arith, e.count_kept-count.ensures)) c.write_kept-written.ensures.0 c.write_kept-written.ensures.1
 
 pub list_kept_spec : {M : Type 1} → statement M
 list_kept_spec =

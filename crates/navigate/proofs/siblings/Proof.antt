@@ -23,45 +23,45 @@ use Rattle.spans.proofs.rank_refusal.Reads as rank-refusal-reads
 abbrev refused : ℕ → Listed
 refused q = record { refusal = q; len = 0 }
 
-none : (c : tie.Else1) → rank_refusal c.before.before.before.before.args.index.now c.before.before.before.before.args.rank ≡ 0
-none c = sym c.before.rank-refusal.ensures ∙ c.if1.false
+none : (c : tie.Else-refusal-ne0) → rank_refusal c.args.index.now c.args.rank ≡ 0
+none c = sym c.rank_refusal-refusal.ensures ∙ c.if-refusal-ne0.false
 
-ok : (c : tie.Else1) → Ranked c.before.before.before.before.args.index.now c.before.before.before.before.args.rank
+ok : (c : tie.Else-refusal-ne0) → Ranked c.args.index.now c.args.rank
 ok c = ranked _ _ (none c)
 
-rank-refusal-requires : tie.Need-rank-refusal-requires
+rank-refusal-requires : tie.Need-rank_refusal-refusal-requires
 rank-refusal-requires c κs = search rules
 
-returns : tie.Need-returns
+returns : tie.Need-returns-then-refusal-ne0
 returns c =
-    let x = c.before.before.before.before.args in
-    let e = c.before.rank-refusal.ensures in
-    let a = list_refused (rank_refusal x.index.now x.rank) (sibling_list x.index.now x.rank) x.out.now (λ z. c.if1.true (e ∙ z)) in
+    let x = c.args in
+    let e = c.rank_refusal-refusal.ensures in
+    let a = list_refused (rank_refusal x.index.now x.rank) (sibling_list x.index.now x.rank) x.out.now (λ z. c.if-refusal-ne0.true (e ∙ z)) in
     (ap refused e ∙ a.0, a.1)
 
-shared-slice-read-n : tie.Need-shared-slice-read-n
+shared-slice-read-n : tie.Need-bounds-index-0
 shared-slice-read-n c = omega (arith, ok c.before, (ok c.before).held)
 
-cast-n : tie.Need-overflow-cast-n
-cast-n c = omega (arith, c.shared-slice-known2.given 0)
+cast-n : tie.Need-overflow_cast-n
+cast-n c = omega (arith, c.shared_slice_known-2-1.given 0)
 
-body-of-requires : tie.Need-body-of-requires
+body-of-requires : tie.Need-body_of-body-requires
 body-of-requires c κs = omega (arith, ok c.before, (ok c.before).held)
 
-list-kept-requires : tie.Need-list-kept-requires
+list-kept-requires : tie.Need-list_kept-requires
 list-kept-requires c κs = omega (arith, ok c.before.before.before, (ok c.before.before.before).held)
 
-same_length : tie.Need-same-length
+same_length : tie.Need-shape_of-out
 same_length c = search rules
 
-returns-2 : tie.Need-returns-2
+returns-2 : tie.Need-returns
 unfolding sibling_list
 returns-2 c =
     let e = c.before.before.before.before.before.before in
-    let x = e.before.before.before.before.args in
+    let x = e.args in
     let s = x.index.now in
-    let p = c.before.before.list-kept.ensures in
-    let b = c.before.before.before.before.body_of.ensures in (
+    let p = c.list_kept.ensures in
+    let b = c.body_of-body.ensures in (
       p.0
           ∙ ap (λ (b : Body). list_answer 0 (filter (λ k. eqb (parent_at s k) b.parent) (numbers 1 (node_count s))) x.out.now) b
           ∙ ap (λ (q : ℕ). list_answer q (sibling_list s x.rank) x.out.now) (sym (none e)),
