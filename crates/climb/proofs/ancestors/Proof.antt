@@ -27,42 +27,42 @@ use Rattle.spans.proofs.rank_refusal.Reads as rank-refusal-reads
 abbrev refused : ℕ → Climbed
 refused q = record { refusal = q; len = 0; links = 0 }
 
-none : (c : tie.Else1) → rank_refusal c.before.before.before.before.args.index.now c.before.before.before.before.args.rank ≡ 0
-none c = sym c.before.rank-refusal.ensures ∙ c.if1.false
+none : (c : tie.Else-refusal-ne0) → rank_refusal c.args.index.now c.args.rank ≡ 0
+none c = sym c.rank_refusal-refusal.ensures ∙ c.if-refusal-ne0.false
 
-ok : (c : tie.Else1) → Ranked c.before.before.before.before.args.index.now c.before.before.before.before.args.rank
+ok : (c : tie.Else-refusal-ne0) → Ranked c.args.index.now c.args.rank
 ok c = ranked _ _ (none c)
 
-rank-refusal-requires : tie.Need-rank-refusal-requires
+rank-refusal-requires : tie.Need-rank_refusal-refusal-requires
 rank-refusal-requires c κs = search rules
 
-returns : tie.Need-returns
+returns : tie.Need-returns-then-refusal-ne0
 returns c =
-    let x = c.before.before.before.before.args in
+    let x = c.args in
     let s = x.index.now in
-    let e = c.before.rank-refusal.ensures in
-    let a = climb_refused (rank_refusal s x.rank) (cond (bad_climb s x.rank) 15 0) (chain s x.rank) (ancestor_list s x.rank x.lo x.hi) x.out.now (λ z. c.if1.true (e ∙ z)) in
+    let e = c.rank_refusal-refusal.ensures in
+    let a = climb_refused (rank_refusal s x.rank) (cond (bad_climb s x.rank) 15 0) (chain s x.rank) (ancestor_list s x.rank x.lo x.hi) x.out.now (λ z. c.if-refusal-ne0.true (e ∙ z)) in
     (ap refused e ∙ a.0, a.1)
 
-body-of-requires : tie.Need-body-of-requires
+body-of-requires : tie.Need-body_of-body-requires
 body-of-requires c κs = omega (arith, ok c, (ok c).held)
 
-list-climb-requires : tie.Need-list-climb-requires
+list-climb-requires : tie.Need-list_climb-requires
 list-climb-requires c κs = omega (arith, ok c.before.before, (ok c.before.before).held)
 
-same_length : tie.Need-same-length
+same_length : tie.Need-shape_of-out
 same_length c = search rules
 
-returns-2 : tie.Need-returns-2
+returns-2 : tie.Need-returns
 returns-2 c =
     let e = c.before.before.before.before.before in
-    let x = e.before.before.before.before.args in
+    let x = e.args in
     let s = x.index.now in
     let r = chain s x.rank in
     let q : ℕ = cond (bad_climb s x.rank) 15 0 in
     let n = first_passed (rank_refusal s x.rank) q (none e) in
-    let p = c.before.before.list-climb.ensures in
-    let k = within_eq (ap (λ (b : Body). b.level) c.before.before.before.before.body_of.ensures) e.before.before.before.before.ranges.lo e.before.before.before.before.ranges.hi in (
+    let p = c.list_climb.ensures in
+    let k = within_eq (ap (λ (b : Body). b.level) c.body_of-body.ensures) e.ranges.lo e.ranges.hi in (
       p.0
           ∙ ap (λ (b : Keep). climb_answer q r (filter (keeps_at s b) r) x.out.now) k
           ∙ ap (λ (y : ℕ). climb_answer y r (ancestor_list s x.rank x.lo x.hi) x.out.now) n,

@@ -12,48 +12,48 @@ use Rattle.climb.proofs.list_climb.Lts as lts
 use Rattle.climb.proofs.climb.Reads as climb-reads
 use Rattle.climb.proofs.write_climb.Reads as write-climb-reads
 
-climb-requires : tie.Need-climb-requires
+climb-requires : tie.Need-climb-found-requires
 climb-requires c κs = search rules
 
-returns : tie.Need-returns
+returns : tie.Need-returns-then-refusal-ne0
 returns c =
-    let x = c.before.before.before.before.args in
+    let x = c.args in
     let s = x.index.now in
     let r = chain s x.rank in
     let l = filter (keeps_at s x.keep) r in
-    climb_stuck (bad_climb s x.rank) r l x.out.now _ c.before.climb.ensures c.if1.true
+    climb_stuck (bad_climb s x.rank) r l x.out.now _ c.climb-found.ensures c.if-refusal-ne0.true
 
-returns-2 : tie.Need-returns-2
+returns-2 : tie.Need-returns-then-out-len
 returns-2 c =
-    let x = c.before.before.before.before.before.args in
+    let x = c.args in
     let s = x.index.now in
     let r = chain s x.rank in
     let l = filter (keeps_at s x.keep) r in
-    let o = climb_open (bad_climb s x.rank) r l _ c.before.before.climb.ensures c.before.if1.false in
+    let o = climb_open (bad_climb s x.rank) r l _ c.climb-found.ensures c.if-refusal-ne0.false in
     climb_long (bad_climb s x.rank) r l x.out.now o.0 (omega (arith, o.1))
 
-write-climb-requires : tie.Need-write-climb-requires
+write-climb-requires : tie.Need-write_climb-requires
 write-climb-requires c κs =
-    let x = c.before.before.before.before.before.before.args in
+    let x = c.args in
     let s = x.index.now in
     let r = chain s x.rank in
     let l = filter (keeps_at s x.keep) r in
-    let o = climb_open (bad_climb s x.rank) r l _ c.before.before.before.climb.ensures c.before.before.if1.false in
-    let p = c.before.before.before.before.before.before.requires in
+    let o = climb_open (bad_climb s x.rank) r l _ c.climb-found.ensures c.if-refusal-ne0.false in
+    let p = c.requires in
     ((p.0, p.1, p.2, o.0), omega (arith, o.1))
 
-same_length : tie.Need-same-length
+same_length : tie.Need-shape_of-out
 same_length c = search rules
 
-returns-3 : tie.Need-returns-3
+returns-3 : tie.Need-returns
 returns-3 c =
-    let x = c.before.before.before.before.before.before.before.before.before.args in
+    let x = c.args in
     let s = x.index.now in
     let r = chain s x.rank in
     let l = filter (keeps_at s x.keep) r in
-    let f = c.before.before.before.before.before.before.climb.ensures in
-    let o = climb_open (bad_climb s x.rank) r l _ f c.before.before.before.before.before.if1.false in
-    climb_fits (bad_climb s x.rank) r l x.out.now _ _ o.0 (omega (arith, o.1)) f c.before.before.write-climb.ensures
+    let f = c.climb-found.ensures in
+    let o = climb_open (bad_climb s x.rank) r l _ f c.if-refusal-ne0.false in
+    climb_fits (bad_climb s x.rank) r l x.out.now _ _ o.0 (omega (arith, o.1)) f c.write_climb.ensures
 
 pub list_climb_spec : {M : Type 1} → statement M
 list_climb_spec =
