@@ -13,47 +13,47 @@ use Rattle.orphans.proofs.last_flag.Lts as lts
 use Rattle.table.proofs.flag.Reads as flag-reads
 use Rattle.table.proofs.rows.Reads as rows-reads
 
-abbrev invariant-loop : tie.invariant-loop
+abbrev invariant-loop : tie.invariant-loop-k
 invariant-loop table n k₀ k =
     (k ≤ length (flag_column table)) × (last_below (flag_column table) (length (flag_column table)) ≡ last_below (flag_column table) k)
 
-abbrev decreases-loop : tie.decreases-loop
+abbrev decreases-loop : tie.decreases-loop-k
 decreases-loop table n k₀ k =
     k
 
-rows-requires : tie.Need-rows-requires invariant-loop decreases-loop
+rows-requires : tie.Need-rows-n-requires invariant-loop decreases-loop
 rows-requires c κs = search rules
 
-cast-n : tie.Need-overflow-cast-n invariant-loop decreases-loop
+cast-n : tie.Need-overflow_cast-n invariant-loop decreases-loop
 cast-n c =
-    omega (arith, c.before.before.requires, c.rows.ensures 7)
+    omega (arith, c.requires, c.rows-n.ensures 7)
 
-loop-holds : tie.Need-loop-init invariant-loop decreases-loop
+loop-holds : tie.Need-loop-k-init invariant-loop decreases-loop
 loop-holds c =
-    (omega (arith, c.rows.ensures 7), ap (λ (m : ℕ). last_below (flag_column c.before.before.args.table.now) m) (sym (c.rows.ensures 7)))
+    (omega (arith, c.rows-n.ensures 7), ap (λ (m : ℕ). last_below (flag_column c.args.table.now) m) (sym (c.rows-n.ensures 7)))
 
-sub-k : tie.Need-overflow-sub-k invariant-loop decreases-loop
+sub-k : tie.Need-overflow_sub-k invariant-loop decreases-loop
 sub-k c = search rules
 
 flag-requires : tie.Need-flag-requires invariant-loop decreases-loop
 flag-requires c κs = search rules
 
-returns : tie.Need-returns invariant-loop decreases-loop
+returns : tie.Need-returns-then-flag-eq1 invariant-loop decreases-loop
 unfolding last_flag
 returns c =
-    last_here _ _ _ c.before.before.loop-test.true c.before.flag.ensures c.if1.true ∙ sym c.before.before.before.loop.invariant.1
+    last_here _ _ _ c.loop-k-test.true c.flag.ensures c.if-flag-eq1.true ∙ sym c.loop-k.invariant.1
 
-loop-less : tie.Need-loop-smaller invariant-loop decreases-loop
+loop-less : tie.Need-loop-k-smaller invariant-loop decreases-loop
 loop-less c = search rules
 
-loop-again : tie.Need-loop-preserved invariant-loop decreases-loop
+loop-again : tie.Need-loop-k-preserved invariant-loop decreases-loop
 loop-again c =
-    (omega arith, c.before.before.before.loop.invariant.1 ∙ last_before _ _ _ c.before.before.loop-test.true c.before.flag.ensures c.if1.false)
+    (omega arith, c.loop-k.invariant.1 ∙ last_before _ _ _ c.loop-k-test.true c.flag.ensures c.if-flag-eq1.false)
 
-returns-2 : tie.Need-returns-2 invariant-loop decreases-loop
+returns-2 : tie.Need-returns invariant-loop decreases-loop
 unfolding last_flag
 returns-2 c =
-    c.before.before.rows.ensures 7 ∙ last_none _ _ c.loop-test.false ∙ sym c.before.loop.invariant.1
+    c.rows-n.ensures 7 ∙ last_none _ _ c.loop-k-test.false ∙ sym c.loop-k.invariant.1
 
 pub last_flag_spec : {M : Type 1} → statement M
 last_flag_spec =

@@ -11,28 +11,28 @@ use Rattle.orphans.proofs.link_rows.Reads as link-rows-reads
 use Rattle.orphans.proofs.share_children.Reads as share-children-reads
 
 -- src/lib.rt:85:5
-clear-children-requires : tie.Need-clear-children-requires
+clear-children-requires : tie.Need-clear_children-requires
 clear-children-requires c κs =
-    omega (arith, c.before.before.before.requires.few, column_length 0 c.before.before.before.args.table.now)
+    omega (arith, c.requires.few, column_length 0 c.args.table.now)
 
 -- src/lib.rt:86:5
-link-rows-requires : tie.Need-link-rows-requires
+link-rows-requires : tie.Need-link_rows-requires
 link-rows-requires c κs =
-    omega (arith, c.before.before.before.before.before.before.before.requires.few, column_length 0 c.before.before.before.clear-children.new.0, c.before.before.before.clear-children.ensures.long)
+    omega (arith, c.requires.few, column_length 0 c.clear_children.new.table, c.clear_children.ensures.long)
 
 -- src/lib.rt:87:5
-share-children-requires : tie.Need-share-children-requires
+share-children-requires : tie.Need-share_children-requires
 share-children-requires c κs =
-    still_linkable _ _ _ _ c.before.before.before.before.before.before.before.before.before.before.before.requires c.before.before.before.before.before.before.before.clear-children.ensures c.before.before.before.link-rows.ensures
+    still_linkable _ _ _ _ c.requires c.clear_children.ensures c.link_rows.ensures
 
 -- src/lib.rt:81:1
-same_length : tie.Need-same-length
+same_length : tie.Need-shape_of-table
 same_length c = search rules
 
 -- src/lib.rt:81:1
 returns : tie.Need-returns
 returns c =
-    outside_linked _ _ _ _ c.before.before.before.before.before.before.before.before.before.before.before.before.before.before.requires c.before.before.before.before.before.before.before.before.before.before.clear-children.ensures c.before.before.before.before.before.before.link-rows.ensures _ c.before.before.share-children.ensures
+    outside_linked _ _ _ _ c.requires c.clear_children.ensures c.link_rows.ensures _ c.share_children.ensures
 
 pub link_outside_spec : {M : Type 1} → statement M
 link_outside_spec =

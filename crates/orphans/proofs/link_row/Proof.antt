@@ -16,26 +16,26 @@ use Rattle.table.proofs.set_flag.Reads as set-flag-reads
 use Rattle.table.proofs.set_next.Reads as set-next-reads
 
 -- src/lib.rt:39:9
-is-outside-requires : tie.Need-is-outside-requires
+is-outside-requires : tie.Need-is_outside-requires
 is-outside-requires c κs = search rules
 
 -- src/lib.rt:40:9
-set-flag-requires : tie.Need-set-flag-requires
+set-flag-requires : tie.Need-set_flag-requires
 set-flag-requires c κs =
-    let t = c.before.before.before.before.before.before.args.table.now in
-    omega (arith, c.before.before.before.before.before.before.requires, column_length 0 t, column_length 7 t)
+    let t = c.args.table.now in
+    omega (arith, c.requires, column_length 0 t, column_length 7 t)
 
 -- src/lib.rt:41:9
-same_length : tie.Need-same-length
+same_length : tie.Need-shape_of-table-then-not-is_outside
 same_length c = search rules
 
 -- src/lib.rt:41:9
-returns : tie.Need-returns
+returns : tie.Need-returns-then-not-is_outside
 returns c =
-    λ t h. row_reached _ t _ _ h c.before.before.before.before.before.before.before.before.before.requires _ _ c.before.before.before.before.before.is-outside.ensures (not-true c.before.before.before.before.before.is-outside.result c.before.before.before.before.if1.true) c.before.before.set-flag.ensures
+    λ t h. row_reached _ t _ _ h c.requires _ _ c.is_outside.ensures (c.if-not-is_outside.true) c.set_flag.ensures
 
 -- src/lib.rt:43:9
-parent-position-requires : tie.Need-parent-position-requires
+parent-position-requires : tie.Need-parent_position-above-requires
 parent-position-requires c κs = search rules
 
 -- src/lib.rt:44:8
@@ -43,54 +43,54 @@ rows-requires : tie.Need-rows-requires
 rows-requires c κs = search rules
 
 -- src/lib.rt:44:30
-cast-if2 : tie.Need-overflow-cast-if2
+cast-if2 : tie.Need-overflow_cast-above
 cast-if2 c = search rules
 
 -- src/lib.rt:45:9
-set-flag-requires-2 : tie.Need-set-flag-requires-2
+set-flag-requires-2 : tie.Need-set_flag-requires-then-rows-above
 set-flag-requires-2 c κs =
-    let t = c.before.before.before.before.before.before.before.before.before.before.before.args.table.now in
-    omega (arith, c.before.before.before.before.before.before.before.before.before.before.before.requires, column_length 0 t, column_length 7 t)
+    let t = c.args.table.now in
+    omega (arith, c.requires, column_length 0 t, column_length 7 t)
 
 -- src/lib.rt:46:9
-same-length-2 : tie.Need-same-length-2
+same-length-2 : tie.Need-shape_of-table-then-rows-above
 same-length-2 c = search rules
 
 -- src/lib.rt:46:9
-returns-2 : tie.Need-returns-2
+returns-2 : tie.Need-returns-then-rows-above
 returns-2 c =
-    λ t h. row_top _ t _ _ h c.before.before.before.before.before.before.before.before.before.before.before.before.before.before.requires _ _ _ c.before.before.before.before.before.before.before.before.before.before.is-outside.ensures (not-false c.before.before.before.before.before.before.before.before.before.before.is-outside.result c.before.before.before.before.before.before.before.before.before.if1.false) c.before.before.before.before.before.before.before.parent-position.ensures (omega (arith, c.before.before.before.before.if2.true, c.before.before.before.before.before.rows.ensures 0)) c.before.before.set-flag2.ensures
+    λ t h. row_top _ t _ _ h c.requires _ _ _ c.is_outside.ensures (c.if-not-is_outside.false) c.parent_position-above.ensures (omega (arith, c.if-rows-above.true, c.rows.ensures 0)) c.set_flag-then-rows-above.ensures
 
 -- src/lib.rt:48:9
-child-requires : tie.Need-child-requires
+child-requires : tie.Need-child-later-requires
 child-requires c κs = search rules
 
 -- src/lib.rt:49:5
-set-flag-requires-3 : tie.Need-set-flag-requires-3
+set-flag-requires-3 : tie.Need-set_flag-requires-2
 set-flag-requires-3 c κs =
-    let t = c.before.before.before.before.before.before.before.before.before.before.before.before.before.args.table.now in
-    omega (arith, c.before.before.before.before.before.before.before.before.before.before.before.before.before.requires, column_length 0 t, column_length 7 t)
+    let t = c.args.table.now in
+    omega (arith, c.requires, column_length 0 t, column_length 7 t)
 
 -- src/lib.rt:50:5
-set-next-requires : tie.Need-set-next-requires
+set-next-requires : tie.Need-set_next-requires
 set-next-requires c κs =
-    let t = c.before.before.before.before.before.before.before.before.before.before.before.before.before.before.before.before.before.args.table.now in
-    omega (arith, c.before.before.before.before.before.before.before.before.before.before.before.before.before.before.before.before.before.requires, column_length 0 t, column_length 4 c.before.before.before.set-flag3.new.0, c.before.before.before.set-flag3.ensures.long)
+    let t = c.args.table.now in
+    omega (arith, c.requires, column_length 0 t, column_length 4 c.set_flag-2.new.table, c.set_flag-2.ensures.long)
 
 -- src/lib.rt:51:5
-set-child-requires : tie.Need-set-child-requires
+set-child-requires : tie.Need-set_child-requires
 set-child-requires c κs =
-    let t = c.before.before.before.before.before.before.before.before.before.before.before.before.before.before.before.before.before.before.before.before.before.args.table.now in
-    omega (arith, c.before.before.before.before.before.before.before.before.before.before.before.if2.false, c.before.before.before.before.before.before.before.before.before.before.before.before.rows.ensures 0, column_length 0 t, column_length 3 c.before.before.before.set_next.new.0, c.before.before.before.set_next.ensures.long, c.before.before.before.before.before.before.before.set-flag3.ensures.long)
+    let t = c.args.table.now in
+    omega (arith, c.if-rows-above.false, c.rows.ensures 0, column_length 0 t, column_length 3 c.set_next.new.table, c.set_next.ensures.long, c.set_flag-2.ensures.long)
 
 -- src/lib.rt:35:1
-same-length-3 : tie.Need-same-length-3
+same-length-3 : tie.Need-shape_of-table
 same-length-3 c = search rules
 
 -- src/lib.rt:35:1
-returns-3 : tie.Need-returns-3
+returns-3 : tie.Need-returns
 returns-3 c =
-    λ t h. row_below _ t _ _ h c.before.before.before.before.before.before.before.before.before.before.before.before.before.before.before.before.before.before.before.before.before.before.before.before.requires _ _ _ _ _ _ c.before.before.before.before.before.before.before.before.before.before.before.before.before.before.before.before.before.before.before.before.is-outside.ensures (not-false c.before.before.before.before.before.before.before.before.before.before.before.before.before.before.before.before.before.before.before.before.is-outside.result c.before.before.before.before.before.before.before.before.before.before.before.before.before.before.before.before.before.before.before.if1.false) c.before.before.before.before.before.before.before.before.before.before.before.before.before.before.before.before.before.parent-position.ensures (omega (arith, c.before.before.before.before.before.before.before.before.before.before.before.before.before.before.if2.false, c.before.before.before.before.before.before.before.before.before.before.before.before.before.before.before.rows.ensures 0)) c.before.before.before.before.before.before.before.before.before.before.before.before.child.ensures c.before.before.before.before.before.before.before.before.before.before.set-flag3.ensures c.before.before.before.before.before.before.set_next.ensures c.before.before.set-child.ensures
+    λ t h. row_below _ t _ _ h c.requires _ _ _ _ _ _ c.is_outside.ensures (c.if-not-is_outside.false) c.parent_position-above.ensures (omega (arith, c.if-rows-above.false, c.rows.ensures 0)) c.child-later.ensures c.set_flag-2.ensures c.set_next.ensures c.set_child.ensures
 
 pub link_row_spec : {M : Type 1} → statement M
 link_row_spec =

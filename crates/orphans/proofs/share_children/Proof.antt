@@ -14,70 +14,70 @@ use Rattle.table.proofs.class.Reads as class-reads
 use Rattle.table.proofs.rows.Reads as rows-reads
 use Rattle.table.proofs.set_child.Reads as set-child-reads
 
-abbrev invariant-loop : tie.invariant-loop
+abbrev invariant-loop : tie.invariant-loop-p
 invariant-loop table₀ n p₀ table p =
     Filled 3 (shared_child table₀) table₀ table p × (p ≤ n)
 
-abbrev decreases-loop : tie.decreases-loop
+abbrev decreases-loop : tie.decreases-loop-p
 decreases-loop table₀ n p₀ table p =
     n - p
 
 -- src/lib.rt:71:13
-rows-requires : tie.Need-rows-requires invariant-loop decreases-loop
+rows-requires : tie.Need-rows-n-requires invariant-loop decreases-loop
 rows-requires c κs = search rules
 
 -- src/lib.rt:71:13
-cast-n : tie.Need-overflow-cast-n invariant-loop decreases-loop
+cast-n : tie.Need-overflow_cast-n invariant-loop decreases-loop
 cast-n c =
-    omega (arith, c.before.before.before.requires.few, column_length 0 c.before.before.before.args.table.now, c.rows.ensures 0)
+    omega (arith, c.requires.few, column_length 0 c.args.table.now, c.rows-n.ensures 0)
 
 -- src/lib.rt:73:5
-loop-holds : tie.Need-loop-init invariant-loop decreases-loop
+loop-holds : tie.Need-loop-p-init invariant-loop decreases-loop
 loop-holds c =
     (filled_start 3 _ _, omega arith)
 
 -- src/lib.rt:74:41
-class-requires : tie.Need-class-requires invariant-loop decreases-loop
+class-requires : tie.Need-class-c-requires invariant-loop decreases-loop
 class-requires c κs = search rules
 
 -- src/lib.rt:74:13
-child-requires : tie.Need-child-requires invariant-loop decreases-loop
+child-requires : tie.Need-child-first-requires invariant-loop decreases-loop
 child-requires c κs = search rules
 
 -- src/lib.rt:75:9
-set-child-requires : tie.Need-set-child-requires invariant-loop decreases-loop
+set-child-requires : tie.Need-set_child-requires invariant-loop decreases-loop
 set-child-requires c κs =
-    let t = c.before.before.before.before.before.before.before.before.before.before.args.table.now in
-    omega (arith, c.before.before.before.before.before.loop-test.true, c.before.before.before.before.before.before.before.rows.ensures 0, column_length 0 t, column_length 3 c.before.before.before.before.before.before.loop.table, c.before.before.before.before.before.before.loop.invariant.0.long)
+    let t = c.args.table.now in
+    omega (arith, c.loop-p-test.true, c.rows-n.ensures 0, column_length 0 t, column_length 3 c.loop-p.table, c.loop-p.invariant.0.long)
 
 -- src/lib.rt:76:9
-add-p : tie.Need-overflow-add-p invariant-loop decreases-loop
+add-p : tie.Need-overflow_add-p invariant-loop decreases-loop
 add-p c =
-    omega (arith, c.before.before.before.before.before.before.before.before.loop-test.true, c.before.before.before.before.before.before.before.before.before.before.rows.ensures 0, c.before.before.before.before.before.before.before.before.before.before.before.before.before.requires.few, column_length 0 c.before.before.before.before.before.before.before.before.before.before.before.before.before.args.table.now)
+    omega (arith, c.loop-p-test.true, c.rows-n.ensures 0, c.requires.few, column_length 0 c.args.table.now)
 
 -- src/lib.rt:73:5
-loop-less : tie.Need-loop-smaller invariant-loop decreases-loop
+loop-less : tie.Need-loop-p-smaller invariant-loop decreases-loop
 loop-less c =
-    omega (arith, c.before.before.before.before.before.before.before.before.loop-test.true)
+    omega (arith, c.loop-p-test.true)
 
 -- src/lib.rt:73:5
-loop-again : tie.Need-loop-preserved invariant-loop decreases-loop
+loop-again : tie.Need-loop-p-preserved invariant-loop decreases-loop
 loop-again c =
-    let t = c.before.before.before.before.before.before.before.before.before.before.before.before.before.args.table.now in
-    let lt : c.before.before.before.before.before.before.before.before.before.loop.p < length t / 8 = omega (arith, c.before.before.before.before.before.before.before.before.loop-test.true, c.before.before.before.before.before.before.before.before.before.before.rows.ensures 0, column_length 0 t) in
-    let value = shared_value _ _ _ _ _ c.before.before.before.before.before.before.before.before.before.before.before.before.before.requires lt c.before.before.before.before.before.before.class.ensures c.before.before.before.before.child.ensures c.before.before.before.before.before.before.before.before.before.loop.invariant.0 in
-    (filled_step 3 _ _ _ _ _ _ lt value c.before.before.set-child.ensures c.before.before.before.before.before.before.before.before.before.loop.invariant.0, omega arith)
+    let t = c.args.table.now in
+    let lt : c.loop-p.p < length t / 8 = omega (arith, c.loop-p-test.true, c.rows-n.ensures 0, column_length 0 t) in
+    let value = shared_value _ _ _ _ _ c.requires lt c.class-c.ensures c.child-first.ensures c.loop-p.invariant.0 in
+    (filled_step 3 _ _ _ _ _ _ lt value c.set_child.ensures c.loop-p.invariant.0, omega arith)
 
 -- src/lib.rt:67:1
-same_length : tie.Need-same-length invariant-loop decreases-loop
+same_length : tie.Need-shape_of-table invariant-loop decreases-loop
 same_length c =
-    c.before.loop.invariant.0.long
+    c.loop-p.invariant.0.long
 
 -- src/lib.rt:67:1
 returns : tie.Need-returns invariant-loop decreases-loop
 returns c =
-    let t = c.before.before.before.before.before.args.table.now in
-    children_shared _ _ _ (omega (arith, c.loop-test.false, c.before.before.rows.ensures 0, column_length 0 t)) c.before.loop.invariant.0
+    let t = c.args.table.now in
+    children_shared _ _ _ (omega (arith, c.loop-p-test.false, c.rows-n.ensures 0, column_length 0 t)) c.loop-p.invariant.0
 
 pub share_children_spec : {M : Type 1} → statement M
 share_children_spec =
