@@ -11,7 +11,7 @@ use Rattle.index_check.proofs.bits_right.Reads as reads
 use Rattle.index_check.proofs.bits_right.Lts as lts
 use Rattle.image.proofs.word_of.Reads as word-of-reads
 
-word-of-requires : tie.Need-word-of-requires
+word-of-requires : tie.Need-word_of-requires
 word-of-requires c κs = search rules
 
 returns : tie.Need-returns

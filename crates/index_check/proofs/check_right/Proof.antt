@@ -14,22 +14,22 @@ use Rattle.index_check.proofs.check_right.Lts as lts
 use Rattle.image.proofs.add_words.Reads as add-words-reads
 use Rattle.image.proofs.bodies_end.Reads as bodies-end-reads
 
-bodies-end-requires : tie.Need-bodies-end-requires
+bodies-end-requires : tie.Need-bodies_end-end-requires
 bodies-end-requires c κs = search rules
 
-shared-slice-read-result : tie.Need-shared-slice-read-result
+shared-slice-read-result : tie.Need-bounds-index-3
 shared-slice-read-result c = search rules
 
-sub-add-words : tie.Need-overflow-sub-add-words
+sub-add-words : tie.Need-slice_bounds-add_words-count
 sub-add-words c = search rules
 
-part-add-words-start : tie.Need-slice-bounds-add-words-start
+part-add-words-start : tie.Need-slice_bounds-add_words-start
 part-add-words-start c = search rules
 
-part-add-words-end : tie.Need-slice-bounds-add-words-end
+part-add-words-end : tie.Need-slice_bounds-add_words-end
 part-add-words-end c = search rules
 
-add-words-requires : tie.Need-add-words-requires
+add-words-requires : tie.Need-add_words-requires
 add-words-requires c κs = search rules
 
 returns : tie.Need-returns
@@ -37,7 +37,7 @@ unfolding check_right
 returns c =
     let a = c.before.before.before.before.before in
     let s = a.args.index.now in
-    let e : c.before.before.before.bodies-end.result - 8 ≡ 6 * node_count s = omega (arith, c.before.before.before.bodies-end.ensures) in
+    let e : c.bodies_end-end.result - 8 ≡ 6 * node_count s = omega (arith, c.bodies_end-end.ensures) in
     ap (eqb (get_or s 3 0)) (c.add_words.ensures ∙ ap (λ (m : ℕ). checked 0 (take m (drop 8 s))) e)
 
 pub check_right_spec : {M : Type 1} → statement M

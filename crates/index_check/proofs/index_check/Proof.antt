@@ -17,51 +17,51 @@ use Rattle.index_check.proofs.check_right.Reads as check-right-reads
 use Rattle.index_check.proofs.ranks_right.Reads as ranks-right-reads
 use Rattle.index_check.proofs.zeros_right.Reads as zeros-right-reads
 
-good : (c : tie.Else1) → bad_contents c.before.before.before.args.index.now ≡ false
-good c = contents_of _ (sym c.before.contents-refusal.ensures ∙ c.if1.false)
+good : (c : tie.Else-contents_refusal-ne0) → bad_contents c.args.index.now ≡ false
+good c = contents_of _ (sym c.contents_refusal.ensures ∙ c.if-contents_refusal-ne0.false)
 
-ok : (c : tie.Else1) → Contents c.before.before.before.args.index.now
+ok : (c : tie.Else-contents_refusal-ne0) → Contents c.args.index.now
 ok c = contents _ (good c)
 
-zeros_yes : (c : tie.Else2) → zeros_right c.before.before.before.before.before.before.args.index.now ≡ true
-zeros_yes c = sym c.before.zeros-right.ensures ∙ not-false _ c.if2.false
+zeros_yes : (c : tie.Else-not-zeros_right) → zeros_right c.args.index.now ≡ true
+zeros_yes c = sym c.zeros_right.ensures ∙ c.if-not-zeros_right.false
 
-check_yes : (c : tie.Else3) → check_right c.before.before.before.before.before.before.before.before.args.index.now ≡ true
-check_yes c = sym c.before.check-right.ensures ∙ not-false _ c.if3.false
+check_yes : (c : tie.Else-not-check_right) → check_right c.args.index.now ≡ true
+check_yes c = sym c.check_right.ensures ∙ c.if-not-check_right.false
 
-contents-refusal-requires : tie.Need-contents-refusal-requires
+contents-refusal-requires : tie.Need-contents_refusal-requires
 contents-refusal-requires c κs = search rules
 
-returns : tie.Need-returns
+returns : tie.Need-returns-then-contents_refusal-ne0
 unfolding accepts
-returns c = simp (contents_some _ (λ e. c.if1.true (c.before.contents-refusal.ensures ∙ e)))
+returns c = simp (contents_some _ (λ e. c.if-contents_refusal-ne0.true (c.contents_refusal.ensures ∙ e)))
 
-shared-slice-read-n : tie.Need-shared-slice-read-n
+shared-slice-read-n : tie.Need-bounds-index-0
 shared-slice-read-n c = omega (arith, ok c.before)
 
-zeros-right-requires : tie.Need-zeros-right-requires
+zeros-right-requires : tie.Need-zeros_right-requires
 zeros-right-requires c κs = (ok c.before).long
 
-returns-2 : tie.Need-returns-2
+returns-2 : tie.Need-returns-then-not-zeros_right
 unfolding accepts
-returns-2 c = simp (sym c.before.zeros-right.ensures ∙ not-true _ c.if2.true, and-false)
+returns-2 c = simp (sym c.zeros_right.ensures ∙ c.if-not-zeros_right.true, and-false)
 
-check-right-requires : tie.Need-check-right-requires
+check-right-requires : tie.Need-check_right-requires
 check-right-requires c κs = let h = ok c.before.before.before in (refl, h.few, h.room)
 
-returns-3 : tie.Need-returns-3
+returns-3 : tie.Need-returns-then-not-check_right
 unfolding accepts
-returns-3 c = simp (sym c.before.check-right.ensures ∙ not-true _ c.if3.true, and-false)
+returns-3 c = simp (sym c.check_right.ensures ∙ c.if-not-check_right.true, and-false)
 
-cast-ranks-right : tie.Need-overflow-cast-ranks-right
+cast-ranks-right : tie.Need-overflow_cast-n
 cast-ranks-right c = omega (arith, (ok c.before.before.before.before.before).few)
 
-ranks-right-requires : tie.Need-ranks-right-requires
+ranks-right-requires : tie.Need-ranks_right-requires
 ranks-right-requires c κs = let h = ok c.before.before.before.before.before in (h.few, h.room)
 
-returns-4 : tie.Need-returns-4
+returns-4 : tie.Need-returns
 unfolding accepts
-returns-4 c = simp (good c.before.before.before.before.before.before, zeros_yes c.before.before.before, check_yes c.before, c.ranks-right.ensures)
+returns-4 c = simp (good c.before.before.before.before.before.before, zeros_yes c.before.before.before, check_yes c.before, c.ranks_right.ensures)
 
 pub index_check_spec : {M : Type 1} → statement M
 index_check_spec =

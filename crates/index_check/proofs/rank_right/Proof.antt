@@ -10,67 +10,67 @@ use Rattle.index_check.proofs.rank_right.Statement.{statement}
 use Rattle.index_check.proofs.rank_right.Tie as tie
 
 -- the slice and the rank at the function's entry, and the conditions found right on the way
-size_yes : (c : tie.Else1) → size_right c.before.before.before.args.index.now c.before.before.before.args.k ≡ true
-size_yes c = sym c.before.size-right.ensures ∙ not-false _ c.if1.false
+size_yes : (c : tie.Else-not-size_right) → size_right c.args.index.now c.args.k ≡ true
+size_yes c = sym c.size_right.ensures ∙ c.if-not-size_right.false
 
-parent_yes : (c : tie.Else2) → parent_right c.before.before.before.before.before.args.index.now c.before.before.before.before.before.args.k ≡ true
-parent_yes c = sym c.before.parent-right.ensures ∙ not-false _ c.if2.false
+parent_yes : (c : tie.Else-not-parent_right) → parent_right c.args.index.now c.args.k ≡ true
+parent_yes c = sym c.parent_right.ensures ∙ c.if-not-parent_right.false
 
-end_yes : (c : tie.Else3) → end_right c.before.before.before.before.before.before.before.args.index.now c.before.before.before.before.before.before.before.args.k ≡ true
-end_yes c = sym c.before.end-right.ensures ∙ not-false _ c.if3.false
+end_yes : (c : tie.Else-not-end_right) → end_right c.args.index.now c.args.k ≡ true
+end_yes c = sym c.end_right.ensures ∙ c.if-not-end_right.false
 
-level_yes : (c : tie.Else4) → level_right c.before.before.before.before.before.before.before.before.before.args.index.now c.before.before.before.before.before.before.before.before.before.args.k ≡ true
-level_yes c = sym c.before.level-right.ensures ∙ not-false _ c.if4.false
+level_yes : (c : tie.Else-not-level_right) → level_right c.args.index.now c.args.k ≡ true
+level_yes c = sym c.level_right.ensures ∙ c.if-not-level_right.false
 
-root_yes : (c : tie.Else5) → root_right c.before.before.before.before.before.before.before.before.before.before.before.args.index.now c.before.before.before.before.before.before.before.before.before.before.before.args.k ≡ true
-root_yes c = sym c.before.root-right.ensures ∙ not-false _ c.if5.false
+root_yes : (c : tie.Else-not-root_right) → root_right c.args.index.now c.args.k ≡ true
+root_yes c = sym c.root_right.ensures ∙ c.if-not-root_right.false
 
-linked : (c : tie.Else2) → ParentBelow c.before.before.before.before.before.args.index.now c.before.before.before.before.before.args.k
+linked : (c : tie.Else-not-parent_right) → ParentBelow c.args.index.now c.args.k
 linked c =
     let a = c.before.before.before.before.before in
     record { held = a.requires.held; below = parent_below a.args.index.now a.args.k a.requires.held.low (parent_yes c) }
 
-size-right-requires : tie.Need-size-right-requires
+size-right-requires : tie.Need-size_right-requires
 size-right-requires c κs = search rules
 
-returns : tie.Need-returns
+returns : tie.Need-returns-then-not-size_right
 unfolding rank_right
-returns c = simp (sym c.before.size-right.ensures ∙ not-true _ c.if1.true, and-false)
+returns c = simp (sym c.size_right.ensures ∙ c.if-not-size_right.true, and-false)
 
-parent-right-requires : tie.Need-parent-right-requires
+parent-right-requires : tie.Need-parent_right-requires
 parent-right-requires c κs = search rules
 
-returns-2 : tie.Need-returns-2
+returns-2 : tie.Need-returns-then-not-parent_right
 unfolding rank_right
-returns-2 c = simp (sym c.before.parent-right.ensures ∙ not-true _ c.if2.true, and-false)
+returns-2 c = simp (sym c.parent_right.ensures ∙ c.if-not-parent_right.true, and-false)
 
-end-right-requires : tie.Need-end-right-requires
+end-right-requires : tie.Need-end_right-requires
 end-right-requires c κs = linked c
 
-returns-3 : tie.Need-returns-3
+returns-3 : tie.Need-returns-then-not-end_right
 unfolding rank_right
-returns-3 c = simp (sym c.before.end-right.ensures ∙ not-true _ c.if3.true, and-false)
+returns-3 c = simp (sym c.end_right.ensures ∙ c.if-not-end_right.true, and-false)
 
-level-right-requires : tie.Need-level-right-requires
+level-right-requires : tie.Need-level_right-requires
 level-right-requires c κs = linked c.before.before
 
-returns-4 : tie.Need-returns-4
+returns-4 : tie.Need-returns-then-not-level_right
 unfolding rank_right
-returns-4 c = simp (sym c.before.level-right.ensures ∙ not-true _ c.if4.true, and-false)
+returns-4 c = simp (sym c.level_right.ensures ∙ c.if-not-level_right.true, and-false)
 
-root-right-requires : tie.Need-root-right-requires
+root-right-requires : tie.Need-root_right-requires
 root-right-requires c κs = linked c.before.before.before.before
 
-returns-5 : tie.Need-returns-5
+returns-5 : tie.Need-returns-then-not-root_right
 unfolding rank_right
-returns-5 c = simp (sym c.before.root-right.ensures ∙ not-true _ c.if5.true, and-false)
+returns-5 c = simp (sym c.root_right.ensures ∙ c.if-not-root_right.true, and-false)
 
-bits-right-requires : tie.Need-bits-right-requires
+bits-right-requires : tie.Need-bits_right-requires
 bits-right-requires c κs = search rules
 
-returns-6 : tie.Need-returns-6
+returns-6 : tie.Need-returns
 unfolding rank_right
-returns-6 c = simp (size_yes c.before.before.before.before.before.before.before.before.before, parent_yes c.before.before.before.before.before.before.before, end_yes c.before.before.before.before.before, level_yes c.before.before.before, root_yes c.before, c.bits-right.ensures)
+returns-6 c = simp (size_yes c.before.before.before.before.before.before.before.before.before, parent_yes c.before.before.before.before.before.before.before, end_yes c.before.before.before.before.before, level_yes c.before.before.before, root_yes c.before, c.bits_right.ensures)
 
 pub rank_right_spec : {M : Type 1} → statement M
 rank_right_spec =

@@ -10,12 +10,12 @@ use Rattle.index_check.proofs.size_right.Reads as reads
 use Rattle.index_check.proofs.size_right.Lts as lts
 use Rattle.image.proofs.body_of.Reads as body-of-reads
 
-body-of-requires : tie.Need-body-of-requires
+body-of-requires : tie.Need-body_of-requires
 body-of-requires c κs = search rules
 
 returns : tie.Need-returns
 unfolding size_right
-returns c = ap (λ (b : Body). leb 1 b.size) c.before.body_of.ensures
+returns c = ap (λ (b : Body). leb 1 b.size) c.body_of.ensures
 
 pub size_right_spec : {M : Type 1} → statement M
 size_right_spec = tie.close (tie.spec body-of-requires returns)
