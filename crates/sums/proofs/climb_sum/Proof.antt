@@ -26,7 +26,7 @@ use Rattle.sums.proofs.climb_sum.Lts as lts
 use Rattle.image.proofs.body_of.Reads as body-of-reads
 use Rattle.sums.proofs.own_minutes.Reads as own-minutes-reads
 
-abbrev invariant-loop : tie.invariant-loop
+abbrev invariant-loop : tie.invariant-loop-k
 invariant-loop index totals rank k₀ so-far₀ k so_far =
     (k ≤ rank)
     × (bad_climb index rank ≡ bad_climb index k)
@@ -34,137 +34,137 @@ invariant-loop index totals rank k₀ so-far₀ k so_far =
     × (to_z w64 so_far +ℤ sum (own_minutes totals) (chain index k) ≡ sum (own_minutes totals) (chain index rank))
     × (mag (to_z w64 so_far) ≤ (rank - k) * 2147483648)
 
-abbrev decreases-loop : tie.decreases-loop
+abbrev decreases-loop : tie.decreases-loop-k
 decreases-loop index totals rank k₀ so-far₀ k so_far = k
 
-abbrev S : tie.At-loop invariant-loop decreases-loop → List ℕ
-S l = l.before.before.args.index.now
+abbrev S : tie.At-loop-k invariant-loop decreases-loop → List ℕ
+S l = l.args.index.now
 
-abbrev Tt : tie.At-loop invariant-loop decreases-loop → List ℤ
-Tt l = l.before.before.args.totals.now
+abbrev Tt : tie.At-loop-k invariant-loop decreases-loop → List ℤ
+Tt l = l.args.totals.now
 
-abbrev Loop : tie.After-own-minutes invariant-loop decreases-loop → tie.At-loop invariant-loop decreases-loop
+abbrev Loop : tie.After-own_minutes-own invariant-loop decreases-loop → tie.At-loop-k invariant-loop decreases-loop
 Loop o = o.before.before.before.before.before.before.before
 
-parent : (c : tie.After-body-of invariant-loop decreases-loop) → c.body_of.result.parent ≡ parent_at (S c.before.before) c.before.before.loop.k
-parent c = ap (λ (b : Body). b.parent) c.body_of.ensures
+parent : (c : tie.After-body_of-parent invariant-loop decreases-loop) → c.body_of-parent.result.parent ≡ parent_at (S c.before.before) c.loop-k.k
+parent c = ap (λ (b : Body). b.parent) c.body_of-parent.ensures
 
 -- the parent is below, where the climb goes on
-below : (c : tie.Else1 invariant-loop decreases-loop) → parent_at (S c.before.before.before.before) c.before.before.before.before.loop.k < c.before.before.before.before.loop.k
-below c = omega (arith, parent c.before.before, c.if1.false)
+below : (c : tie.Else-k-parent invariant-loop decreases-loop) → parent_at (S c.before.before.before.before) c.loop-k.k < c.loop-k.k
+below c = omega (arith, parent c.before.before, c.if-k-parent.false)
 
 -- what the call finds, of the totals themselves
-own : (o : tie.After-own-minutes invariant-loop decreases-loop) → o.own-minutes.result ≡ found (bad_own (Tt (Loop o)) (Loop o).loop.k) (own_minutes (Tt (Loop o)) (Loop o).loop.k)
+own : (o : tie.After-own_minutes-own invariant-loop decreases-loop) → o.own_minutes-own.result ≡ found (bad_own (Tt (Loop o)) (Loop o).loop-k.k) (own_minutes (Tt (Loop o)) (Loop o).loop-k.k)
 own o =
     let t = Tt (Loop o) in
-    let k = (Loop o).loop.k in
+    let k = (Loop o).loop-k.k in
     let e : to_z w64 (of_z w64 (total_at t k)) ≡ total_at t k = search rules in
     let f : to_z w64 (of_z w64 (total_at t (k - 1))) ≡ total_at t (k - 1) = search rules in
-    o.own-minutes.ensures
+    o.own_minutes-own.ensures
     ∙ ap (λ (z : ℤ). found (bad_totals z (to_z w64 (of_z w64 (total_at t (k - 1))))) (z -ℤ to_z w64 (of_z w64 (total_at t (k - 1))))) e
     ∙ ap (λ (z : ℤ). found (bad_totals (total_at t k) z) (total_at t k -ℤ z)) f
 
-back : (o : tie.After-own-minutes invariant-loop decreases-loop) → to_z w64 (of_z w64 o.own-minutes.result.sum) ≡ o.own-minutes.result.sum
+back : (o : tie.After-own_minutes-own invariant-loop decreases-loop) → to_z w64 (of_z w64 o.own_minutes-own.result.sum) ≡ o.own_minutes-own.result.sum
 back o = search rules
 
 -- a turn's own minutes
-fine : (c : tie.Else2 invariant-loop decreases-loop) → let l = Loop c.before.before in
-    (bad_own (Tt l) l.loop.k ≡ false) × (c.before.before.own-minutes.result.sum ≡ own_minutes (Tt l) l.loop.k)
+fine : (c : tie.Else-refusal-ne0 invariant-loop decreases-loop) → let l = Loop c.before.before in
+    (bad_own (Tt l) l.loop-k.k ≡ false) × (c.own_minutes-own.result.sum ≡ own_minutes (Tt l) l.loop-k.k)
 fine c =
     let l = Loop c.before.before in
-    found_fine (bad_own (Tt l) l.loop.k) (own_minutes (Tt l) l.loop.k) _ (own c.before.before) c.if2.false
+    found_fine (bad_own (Tt l) l.loop-k.k) (own_minutes (Tt l) l.loop-k.k) _ (own c.before.before) c.if-refusal-ne0.false
 
-step : (c : tie.Else2 invariant-loop decreases-loop) → let l = Loop c.before.before in
-    mag (to_z w64 l.loop.sum +ℤ to_z w64 (of_z w64 c.before.before.own-minutes.result.sum)) ≤ (l.before.before.args.rank - l.loop.k + 1) * 2147483648
+step : (c : tie.Else-refusal-ne0 invariant-loop decreases-loop) → let l = Loop c.before.before in
+    mag (to_z w64 l.loop-k.sum-bits +ℤ to_z w64 (of_z w64 c.own_minutes-own.result.sum)) ≤ (l.args.rank - l.loop-k.k + 1) * 2147483648
 step c =
     let l = Loop c.before.before in
     let e = back c.before.before ∙ (fine c).1 in
-    sum_mag (to_z w64 l.loop.sum) _ (l.before.before.args.rank - l.loop.k) l.loop.inv.4
-    (subst (λ (z : ℤ). mag z ≤ 2147483647) (sym e) (own_mag (total_at (Tt l) l.loop.k) (total_at (Tt l) (l.loop.k - 1)) (fine c).0))
+    sum_mag (to_z w64 l.loop-k.sum-bits) _ (l.args.rank - l.loop-k.k) l.loop-k.invariant.4
+    (subst (λ (z : ℤ). mag z ≤ 2147483647) (sym e) (own_mag (total_at (Tt l) l.loop-k.k) (total_at (Tt l) (l.loop-k.k - 1)) (fine c).0))
 
-safe : (c : tie.Else2 invariant-loop decreases-loop) → let l = Loop c.before.before in
-    SFits w64 (to_z w64 l.loop.sum +ℤ to_z w64 (of_z w64 c.before.before.own-minutes.result.sum))
-safe c = record { sfits = omega (arith, step c, (Loop c.before.before).before.before.pre.3) }
+safe : (c : tie.Else-refusal-ne0 invariant-loop decreases-loop) → let l = Loop c.before.before in
+    SFits w64 (to_z w64 l.loop-k.sum-bits +ℤ to_z w64 (of_z w64 c.own_minutes-own.result.sum))
+safe c = record { sfits = omega (arith, step c, (Loop c.before.before).requires.3) }
 
-loop-holds : tie.Need-loop-init invariant-loop decreases-loop
+loop-holds : tie.Need-loop-k-init invariant-loop decreases-loop
 loop-holds c = (omega arith, refl, refl, +ℤ_idl _, omega arith)
 
-body-of-requires : tie.Need-body-of-requires invariant-loop decreases-loop
+body-of-requires : tie.Need-body_of-parent-requires invariant-loop decreases-loop
 body-of-requires c κs = omega arith
 
-cast-parent : tie.Need-overflow-cast-parent invariant-loop decreases-loop
+cast-parent : tie.Need-overflow_cast-parent invariant-loop decreases-loop
 cast-parent c = search rules
 
-returns : tie.Need-returns invariant-loop decreases-loop
+returns : tie.Need-returns-then-k-parent invariant-loop decreases-loop
 returns c =
     let l = c.before.before.before.before in
-    found_first (bad_climb (S l) l.before.before.args.rank) (any (bad_own (Tt l)) (chain (S l) l.before.before.args.rank)) _ (l.loop.invariant.1 ∙ stuck_bad (S l) l.loop.k c.before.before.before.loop-test.true (omega (arith, c.if1.true, parent c.before.before)))
+    found_first (bad_climb (S l) l.args.rank) (any (bad_own (Tt l)) (chain (S l) l.args.rank)) _ (l.loop-k.invariant.1 ∙ stuck_bad (S l) l.loop-k.k c.loop-k-test.true (omega (arith, c.if-k-parent.true, parent c.before.before)))
 
-mul-last : tie.Need-overflow-mul-last invariant-loop decreases-loop
+mul-last : tie.Need-offset_bounds-totals-k invariant-loop decreases-loop
 mul-last c = omega arith
 
-shared-slice-copy-out-last : tie.Need-shared-slice-copy-out-last invariant-loop decreases-loop
+shared-slice-copy-out-last : tie.Need-bounds-totals-k invariant-loop decreases-loop
 shared-slice-copy-out-last c = omega arith
 
-sub-first : tie.Need-overflow-sub-first invariant-loop decreases-loop
+sub-first : tie.Need-overflow_sub-first invariant-loop decreases-loop
 sub-first c = omega arith
 
-mul-first : tie.Need-overflow-mul-first invariant-loop decreases-loop
+mul-first : tie.Need-offset_bounds-totals-k-in-loop-k invariant-loop decreases-loop
 mul-first c = omega arith
 
-shared-slice-copy-out-first : tie.Need-shared-slice-copy-out-first invariant-loop decreases-loop
+shared-slice-copy-out-first : tie.Need-bounds-totals-k-in-loop-k invariant-loop decreases-loop
 shared-slice-copy-out-first c = omega arith
 
-own-minutes-requires : tie.Need-own-minutes-requires invariant-loop decreases-loop
+own-minutes-requires : tie.Need-own_minutes-own-requires invariant-loop decreases-loop
 own-minutes-requires c κs = search rules
 
-returns-2 : tie.Need-returns-2 invariant-loop decreases-loop
+returns-2 : tie.Need-returns-then-refusal-ne0 invariant-loop decreases-loop
 returns-2 c =
     let o = c.before.before in
     let l = Loop o in
-    let k = l.loop.k in
-    let st = chain_step (S l) k o.before.before.before.before.before.before.loop-test.true (below o.before.before.before) in
-    let b = found_refused (bad_own (Tt l) k) (own_minutes (Tt l) k) _ (own o) c.if2.true in
-    found_second (bad_climb (S l) l.before.before.args.rank) (any (bad_own (Tt l)) (chain (S l) l.before.before.args.rank)) _
-    (l.loop.inv.2 ∙ ap (any (bad_own (Tt l))) st ∙ ap (λ (t : Bool). t || (any (bad_own (Tt l)) (chain (S l) (parent_at (S l) k)))) b)
+    let k = l.loop-k.k in
+    let st = chain_step (S l) k o.loop-k-test.true (below o.before.before.before) in
+    let b = found_refused (bad_own (Tt l) k) (own_minutes (Tt l) k) _ (own o) c.if-refusal-ne0.true in
+    found_second (bad_climb (S l) l.args.rank) (any (bad_own (Tt l)) (chain (S l) l.args.rank)) _
+    (l.loop-k.invariant.2 ∙ ap (any (bad_own (Tt l))) st ∙ ap (λ (t : Bool). t || (any (bad_own (Tt l)) (chain (S l) (parent_at (S l) k)))) b)
 
-add-sum : tie.Need-overflow-add-sum invariant-loop decreases-loop
+add-sum : tie.Need-overflow_add-sum invariant-loop decreases-loop
 add-sum c = safe c
 
-loop-less : tie.Need-loop-smaller invariant-loop decreases-loop
+loop-less : tie.Need-loop-k-smaller invariant-loop decreases-loop
 loop-less c = omega arith
 
-loop-again : tie.Need-loop-preserved invariant-loop decreases-loop
+loop-again : tie.Need-loop-k-preserved invariant-loop decreases-loop
 loop-again c =
     let o = c.before.before in
     let l = Loop o in
-    let k = l.loop.k in
+    let k = l.loop-k.k in
     let p = parent_at (S l) k in
     let q = parent o.before.before.before.before.before in
-    let pos = o.before.before.before.before.before.before.loop-test.true in
+    let pos = o.loop-k-test.true in
     let down = below o.before.before.before in
     let st = chain_step (S l) k pos down in (
-      omega (arith, down, q, l.loop.inv.0),
-      l.loop.inv.1 ∙ stuck_step (S l) k pos down ∙ ap (bad_climb (S l)) (sym q),
-      l.loop.inv.2
+      omega (arith, down, q, l.loop-k.invariant.0),
+      l.loop-k.invariant.1 ∙ stuck_step (S l) k pos down ∙ ap (bad_climb (S l)) (sym q),
+      l.loop-k.invariant.2
           ∙ ap (any (bad_own (Tt l))) st
           ∙ ap (λ (t : Bool). t || (any (bad_own (Tt l)) (chain (S l) p))) (fine c).0
           ∙ ap (λ (r : ℕ). any (bad_own (Tt l)) (chain (S l) r)) (sym q),
-      ap (λ (r : ℕ). to_z w64 (of_z w64 (to_z w64 l.loop.sum +ℤ to_z w64 (of_z w64 o.own-minutes.result.sum))) +ℤ sum (own_minutes (Tt l)) (chain (S l) r)) q
-          ∙ sum_step (own_minutes (Tt l)) (to_z w64 l.loop.sum) (to_z w64 (of_z w64 o.own-minutes.result.sum)) _ k (chain (S l) p) _
-          (sym (ap (λ (r : List ℕ). to_z w64 l.loop.sum +ℤ sum (own_minutes (Tt l)) r) st) ∙ l.loop.inv.3) (back o ∙ (fine c).1) (to_z-of_z (safe c)),
-      subst (λ (z : ℤ). mag z ≤ (l.before.before.args.rank - o.before.before.before.before.before.body_of.result.parent) * 2147483648) (sym (to_z-of_z (safe c))) (omega (arith, step c, down, q, l.loop.inv.0)),
+      ap (λ (r : ℕ). to_z w64 (of_z w64 (to_z w64 l.loop-k.sum-bits +ℤ to_z w64 (of_z w64 o.own_minutes-own.result.sum))) +ℤ sum (own_minutes (Tt l)) (chain (S l) r)) q
+          ∙ sum_step (own_minutes (Tt l)) (to_z w64 l.loop-k.sum-bits) (to_z w64 (of_z w64 o.own_minutes-own.result.sum)) _ k (chain (S l) p) _
+          (sym (ap (λ (r : List ℕ). to_z w64 l.loop-k.sum-bits +ℤ sum (own_minutes (Tt l)) r) st) ∙ l.loop-k.invariant.3) (back o ∙ (fine c).1) (to_z-of_z (safe c)),
+      subst (λ (z : ℤ). mag z ≤ (l.args.rank - o.body_of-parent.result.parent) * 2147483648) (sym (to_z-of_z (safe c))) (omega (arith, step c, down, q, l.loop-k.invariant.0)),
     )
 
-returns-3 : tie.Need-returns-3 invariant-loop decreases-loop
+returns-3 : tie.Need-returns invariant-loop decreases-loop
 returns-3 c =
     let l = c.before in
-    let r = l.before.before.args.rank in
-    let d = chain_done (S l) l.loop.k c.loop-test.false in
+    let r = l.args.rank in
+    let d = chain_done (S l) l.loop-k.k c.loop-k-test.false in
     found_sum (bad_climb (S l) r) (any (bad_own (Tt l)) (chain (S l) r)) _ _
-    (l.loop.invariant.1 ∙ stuck_done (S l) l.loop.k c.loop-test.false)
-    (l.loop.invariant.2 ∙ ap (any (bad_own (Tt l))) d)
-    (sym (+ℤ_idr (to_z w64 l.loop.sum)) ∙ sym (ap (λ (q : List ℕ). to_z w64 l.loop.sum +ℤ sum (own_minutes (Tt l)) q) d) ∙ l.loop.invariant.3)
+    (l.loop-k.invariant.1 ∙ stuck_done (S l) l.loop-k.k c.loop-k-test.false)
+    (l.loop-k.invariant.2 ∙ ap (any (bad_own (Tt l))) d)
+    (sym (+ℤ_idr (to_z w64 l.loop-k.sum-bits)) ∙ sym (ap (λ (q : List ℕ). to_z w64 l.loop-k.sum-bits +ℤ sum (own_minutes (Tt l)) q) d) ∙ l.loop-k.invariant.3)
 
 pub climb_sum_spec : {M : Type 1} → statement M
 climb_sum_spec =

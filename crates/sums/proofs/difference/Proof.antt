@@ -13,38 +13,38 @@ use Rattle.sums.proofs.difference.Reads as reads
 use Rattle.sums.proofs.difference.Lts as lts
 use Rattle.sums.proofs.is_beyond.Reads as is-beyond-reads
 
-low : (c : tie.Else2) → beyond c.before.before.before.before.args.last ≡ false
-low c = ap beyond (sym (to_z-of_z c.before.before.before.before.ranges.last)) ∙ sym c.before.before.before.is-beyond.ensures ∙ c.before.before.if1.false
+low : (c : tie.Else-is_beyond-2) → beyond c.args.last ≡ false
+low c = ap beyond (sym (to_z-of_z c.ranges.last)) ∙ sym c.is_beyond.ensures ∙ c.if-is_beyond.false
 
-high : (c : tie.Else2) → beyond c.before.before.before.before.args.first ≡ false
-high c = ap beyond (sym (to_z-of_z c.before.before.before.before.ranges.first)) ∙ sym c.before.is-beyond2.ensures ∙ c.if2.false
+high : (c : tie.Else-is_beyond-2) → beyond c.args.first ≡ false
+high c = ap beyond (sym (to_z-of_z c.ranges.first)) ∙ sym c.is_beyond-2.ensures ∙ c.if-is_beyond-2.false
 
-is-beyond-requires : tie.Need-is-beyond-requires
+is-beyond-requires : tie.Need-is_beyond-requires
 is-beyond-requires c κs = search rules
 
-returns : tie.Need-returns
+returns : tie.Need-returns-then-is_beyond
 returns c =
-    let s = c.before.before in
+    let s = c in
     found_first (beyond s.args.last) (beyond s.args.first) (s.args.last -ℤ s.args.first)
-    (ap beyond (sym (to_z-of_z s.ranges.last)) ∙ sym c.before.is-beyond.ensures ∙ c.if1.true)
+    (ap beyond (sym (to_z-of_z s.ranges.last)) ∙ sym c.is_beyond.ensures ∙ c.if-is_beyond.true)
 
-is-beyond-requires-2 : tie.Need-is-beyond-requires-2
+is-beyond-requires-2 : tie.Need-is_beyond-requires-2
 is-beyond-requires-2 c κs = search rules
 
-returns-2 : tie.Need-returns-2
+returns-2 : tie.Need-returns-then-is_beyond-2
 returns-2 c =
-    let s = c.before.before.before.before in
+    let s = c in
     found_second (beyond s.args.last) (beyond s.args.first) (s.args.last -ℤ s.args.first)
-    (ap beyond (sym (to_z-of_z s.ranges.first)) ∙ sym c.before.is-beyond2.ensures ∙ c.if2.true)
+    (ap beyond (sym (to_z-of_z s.ranges.first)) ∙ sym c.is_beyond-2.ensures ∙ c.if-is_beyond-2.true)
 
-sub-t5 : tie.Need-overflow-sub-t5
+sub-t5 : tie.Need-overflow_sub-result
 sub-t5 c =
-    let s = c.before.before.before.before in
+    let s = c in
     less_safe s.args.last s.args.first (low c) (high c) s.ranges.last s.ranges.first
 
-returns-3 : tie.Need-returns-3
+returns-3 : tie.Need-returns
 returns-3 c =
-    let s = c.before.before.before.before in
+    let s = c in
     found_sum (beyond s.args.last) (beyond s.args.first) _ _ (low c) (high c) (less_is s.args.last s.args.first (low c) (high c) s.ranges.last s.ranges.first)
 
 pub difference_spec : {M : Type 1} → statement M

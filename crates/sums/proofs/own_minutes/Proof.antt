@@ -18,54 +18,54 @@ use Rattle.sums.proofs.own_minutes.Lts as lts
 use Rattle.sums.proofs.difference.Reads as difference-reads
 
 -- the totals, their difference, and whether one of them is beyond 2^47
-abbrev Less : tie.After-difference → ℤ
-Less c = c.before.args.last -ℤ c.before.args.first
+abbrev Less : tie.After-difference-own → ℤ
+Less c = c.args.last -ℤ c.args.first
 
-abbrev Far : tie.After-difference → Bool
-Far c = beyond c.before.args.last || beyond c.before.args.first
+abbrev Far : tie.After-difference-own → Bool
+Far c = beyond c.args.last || beyond c.args.first
 
-less : (c : tie.After-difference) → c.difference.result ≡ found (Far c) (Less c)
+less : (c : tie.After-difference-own) → c.difference-own.result ≡ found (Far c) (Less c)
 less c =
-    c.difference.ensures
-    ∙ ap (λ (z : ℤ). found (beyond z || beyond (to_z w64 (of_z w64 c.before.args.first))) (z -ℤ to_z w64 (of_z w64 c.before.args.first))) (to_z-of_z c.before.ranges.last)
-    ∙ ap (λ (z : ℤ). found (beyond c.before.args.last || beyond z) (c.before.args.last -ℤ z)) (to_z-of_z c.before.ranges.first)
+    c.difference-own.ensures
+    ∙ ap (λ (z : ℤ). found (beyond z || beyond (to_z w64 (of_z w64 c.args.first))) (z -ℤ to_z w64 (of_z w64 c.args.first))) (to_z-of_z c.ranges.last)
+    ∙ ap (λ (z : ℤ). found (beyond c.args.last || beyond z) (c.args.last -ℤ z)) (to_z-of_z c.ranges.first)
 
-fine : (c : tie.Else1) → (Far c.before.before ≡ false) × (c.before.before.difference.result.sum ≡ Less c.before.before)
-fine c = found_fine (Far c.before.before) (Less c.before.before) _ (less c.before.before) c.if1.false
+fine : (c : tie.Else-refusal-ne0) → (Far c.before.before ≡ false) × (c.difference-own.result.sum ≡ Less c.before.before)
+fine c = found_fine (Far c.before.before) (Less c.before.before) _ (less c.before.before) c.if-refusal-ne0.false
 
 -- the difference as the tests read it
-seen : (c : tie.Else1) → to_z w64 (of_z w64 c.before.before.difference.result.sum) ≡ Less c.before.before
+seen : (c : tie.Else-refusal-ne0) → to_z w64 (of_z w64 c.difference-own.result.sum) ≡ Less c.before.before
 seen c =
-    let e : to_z w64 (of_z w64 c.before.before.difference.result.sum) ≡ c.before.before.difference.result.sum = search rules in
+    let e : to_z w64 (of_z w64 c.difference-own.result.sum) ≡ c.difference-own.result.sum = search rules in
     e ∙ (fine c).1
 
-difference-requires : tie.Need-difference-requires
+difference-requires : tie.Need-difference-own-requires
 difference-requires c κs = search rules
 
-returns : tie.Need-returns
+returns : tie.Need-returns-then-refusal-ne0
 unfolding bad_totals
 returns c =
     let d = c.before.before in
-    found_first (Far d) (leaves32 (Less d)) (Less d) (found_refused (Far d) (Less d) _ (less d) c.if1.true)
+    found_first (Far d) (leaves32 (Less d)) (Less d) (found_refused (Far d) (Less d) _ (less d) c.if-refusal-ne0.true)
 
-returns-2 : tie.Need-returns-2
+returns-2 : tie.Need-returns-then-sum-gt2147483647
 unfolding bad_totals
 returns-2 c =
     let d = c.before.before.before in
-    found_second (Far d) (leaves32 (Less d)) (Less d) (leaves_high (Less d) (ap (λ (z : ℤ). lt_z (pos 2147483647) z) (sym (seen c.before)) ∙ c.if2.true))
+    found_second (Far d) (leaves32 (Less d)) (Less d) (leaves_high (Less d) (ap (λ (z : ℤ). lt_z (pos 2147483647) z) (sym (seen c.before)) ∙ c.if-sum-gt2147483647.true))
 
-returns-3 : tie.Need-returns-3
+returns-3 : tie.Need-returns-then-sum-ltminus2147483648
 unfolding bad_totals
 returns-3 c =
     let d = c.before.before.before.before in
-    found_second (Far d) (leaves32 (Less d)) (Less d) (leaves_low (Less d) (ap (λ (z : ℤ). lt_z z (negsuc 2147483647)) (sym (seen c.before.before)) ∙ c.if3.true))
+    found_second (Far d) (leaves32 (Less d)) (Less d) (leaves_low (Less d) (ap (λ (z : ℤ). lt_z z (negsuc 2147483647)) (sym (seen c.before.before)) ∙ c.if-sum-ltminus2147483648.true))
 
-returns-4 : tie.Need-returns-4
+returns-4 : tie.Need-returns
 unfolding bad_totals
 returns-4 c =
     let e = c.before.before in
     let d = e.before.before in
-    let in32 = leaves_not (Less d) (ap (λ (z : ℤ). lt_z (pos 2147483647) z) (sym (seen e)) ∙ c.before.if2.false) (ap (λ (z : ℤ). lt_z z (negsuc 2147483647)) (sym (seen e)) ∙ c.if3.false) in
+    let in32 = leaves_not (Less d) (ap (λ (z : ℤ). lt_z (pos 2147483647) z) (sym (seen e)) ∙ c.if-sum-gt2147483647.false) (ap (λ (z : ℤ). lt_z z (negsuc 2147483647)) (sym (seen e)) ∙ c.if-sum-ltminus2147483648.false) in
     less d ∙ ap (λ (t : Bool). found t (Less d)) (fine e).0 ∙ found_sum (Far d) (leaves32 (Less d)) (Less d) (Less d) (fine e).0 in32 refl
 
 pub own_minutes_spec : {M : Type 1} → statement M

@@ -24,73 +24,73 @@ use Rattle.spans.proofs.span_refusal.Reads as span-refusal-reads
 use Rattle.sums.proofs.difference.Reads as difference-reads
 use Rattle.sums.proofs.totals_refusal.Reads as totals-refusal-reads
 
-zero : (c : tie.Else1) → totals_refusal c.before.before.before.args.index.now c.before.before.before.args.totals.now ≡ 0
-zero c = sym c.before.totals-refusal.ensures ∙ c.if1.false
+zero : (c : tie.Else-refusal-ne0) → totals_refusal c.args.index.now c.args.totals.now ≡ 0
+zero c = sym c.totals_refusal-refusal.ensures ∙ c.if-refusal-ne0.false
 
-room : (c : tie.Else1) → node_count c.before.before.before.args.index.now + 1 ≤ length c.before.before.before.args.totals.now
-room c = enough c.before.before.before.args.index.now c.before.before.before.args.totals.now (zero c)
+room : (c : tie.Else-refusal-ne0) → node_count c.args.index.now + 1 ≤ length c.args.totals.now
+room c = enough c.args.index.now c.args.totals.now (zero c)
 
-none : (c : tie.Else2) → span_refusal c.before.before.before.before.before.args.index.now c.before.before.before.before.before.args.rank ≡ 0
-none c = sym c.before.span-refusal.ensures ∙ c.if2.false
+none : (c : tie.Else-spanned-ne0) → span_refusal c.args.index.now c.args.rank ≡ 0
+none c = sym c.span_refusal-spanned.ensures ∙ c.if-spanned-ne0.false
 
-ok : (c : tie.Else2) → Span c.before.before.before.before.before.args.index.now c.before.before.before.before.before.args.rank
+ok : (c : tie.Else-spanned-ne0) → Span c.args.index.now c.args.rank
 ok c = span _ _ (none c)
 
-size : (c : tie.After-body-of) → c.body_of.result.size ≡ size_at c.before.before.before.before.before.before.args.index.now c.before.before.before.before.before.before.args.rank
-size c = ap (λ (b : Body). b.size) c.body_of.ensures
+size : (c : tie.After-body_of-size) → c.body_of-size.result.size ≡ size_at c.args.index.now c.args.rank
+size c = ap (λ (b : Body). b.size) c.body_of-size.ensures
 
-totals-refusal-requires : tie.Need-totals-refusal-requires
+totals-refusal-requires : tie.Need-totals_refusal-refusal-requires
 totals-refusal-requires c κs = search rules
 
-returns : tie.Need-returns
+returns : tie.Need-returns-then-refusal-ne0
 returns c =
-    let x = c.before.before.before.args in
-    sum_first (totals_refusal x.index.now x.totals.now) (span_refusal x.index.now x.rank) _ _ _ c.before.totals-refusal.ensures c.if1.true
+    let x = c.args in
+    sum_first (totals_refusal x.index.now x.totals.now) (span_refusal x.index.now x.rank) _ _ _ c.totals_refusal-refusal.ensures c.if-refusal-ne0.true
 
-span-refusal-requires : tie.Need-span-refusal-requires
+span-refusal-requires : tie.Need-span_refusal-spanned-requires
 span-refusal-requires c κs = search rules
 
-returns-2 : tie.Need-returns-2
+returns-2 : tie.Need-returns-then-spanned-ne0
 returns-2 c =
-    let x = c.before.before.before.before.before.args in
-    sum_second (totals_refusal x.index.now x.totals.now) (span_refusal x.index.now x.rank) _ _ _ (zero c.before.before) c.before.span-refusal.ensures c.if2.true
+    let x = c.args in
+    sum_second (totals_refusal x.index.now x.totals.now) (span_refusal x.index.now x.rank) _ _ _ (zero c.before.before) c.span_refusal-spanned.ensures c.if-spanned-ne0.true
 
-body-of-requires : tie.Need-body-of-requires
+body-of-requires : tie.Need-body_of-size-requires
 body-of-requires c κs = omega (arith, ok c, (ok c).held)
 
-cast-size : tie.Need-overflow-cast-size
+cast-size : tie.Need-overflow_cast-size
 cast-size c = search rules
 
-add-last : tie.Need-overflow-add-last
+add-last : tie.Need-overflow_add-last
 add-last c = search rules
 
-sub-last : tie.Need-overflow-sub-last
+sub-last : tie.Need-overflow_sub-last
 sub-last c = omega (arith, ok c.before.before)
 
-mul-last : tie.Need-overflow-mul-last
+mul-last : tie.Need-offset_bounds-totals-r
 mul-last c = omega (arith, ok c.before.before, (ok c.before.before).held, size c.before)
 
-shared-slice-copy-out-last : tie.Need-shared-slice-copy-out-last
+shared-slice-copy-out-last : tie.Need-bounds-totals-r
 shared-slice-copy-out-last c = omega (arith, ok c.before.before, room c.before.before.before.before, size c.before)
 
-sub-first : tie.Need-overflow-sub-first
+sub-first : tie.Need-overflow_sub-first
 sub-first c = omega (arith, ok c.before.before.before)
 
-mul-first : tie.Need-overflow-mul-first
+mul-first : tie.Need-offset_bounds-totals-r-2
 mul-first c = search rules
 
-shared-slice-copy-out-first : tie.Need-shared-slice-copy-out-first
+shared-slice-copy-out-first : tie.Need-bounds-totals-r-2
 shared-slice-copy-out-first c = omega (arith, ok c.before.before.before, room c.before.before.before.before.before)
 
 difference-requires : tie.Need-difference-requires
 difference-requires c κs = search rules
 
-returns-3 : tie.Need-returns-3
+returns-3 : tie.Need-returns
 returns-3 c =
-    let x = c.before.before.before.before.before.before.before.before.before.before.args in
+    let x = c.args in
     let s = x.index.now in
     let t = x.totals.now in
-    let z = c.before.before.before.before.body_of.result.size in
+    let z = c.body_of-size.result.size in
     let a = total_at t (x.rank + z - 1) in
     let b = total_at t (x.rank - 1) in
     let f : to_z w64 (of_z w64 a) ≡ a = search rules in

@@ -14,29 +14,29 @@ use Rattle.sums.proofs.totals_refusal.Reads as reads
 use Rattle.sums.proofs.totals_refusal.Lts as lts
 use Rattle.image.proofs.contents_refusal.Reads as contents-refusal-reads
 
-none : (c : tie.Else1) → contents_refusal c.before.before.before.args.index.now ≡ 0
-none c = sym c.before.contents-refusal.ensures ∙ c.if1.false
+none : (c : tie.Else-refusal-ne0) → contents_refusal c.args.index.now ≡ 0
+none c = sym c.contents_refusal-refusal.ensures ∙ c.if-refusal-ne0.false
 
-contents-refusal-requires : tie.Need-contents-refusal-requires
+contents-refusal-requires : tie.Need-contents_refusal-refusal-requires
 contents-refusal-requires c κs = search rules
 
-returns : tie.Need-returns
-returns c = first_refused (contents_refusal c.before.before.before.args.index.now) _ _ c.before.contents-refusal.ensures c.if1.true
+returns : tie.Need-returns-then-refusal-ne0
+returns c = first_refused (contents_refusal c.args.index.now) _ _ c.contents_refusal-refusal.ensures c.if-refusal-ne0.true
 
-shared-slice-read-n : tie.Need-shared-slice-read-n
+shared-slice-read-n : tie.Need-bounds-index-0
 shared-slice-read-n c = omega (arith, (contents _ (contents_of _ (none c.before))).long)
 
-cast-n : tie.Need-overflow-cast-n
-cast-n c = omega (arith, c.shared-slice-known2.given 0)
+cast-n : tie.Need-overflow_cast-n
+cast-n c = omega (arith, c.shared_slice_known-2-1.given 0)
 
-add-if2 : tie.Need-overflow-add-if2
-add-if2 c = omega (arith, c.shared-slice-known2.given 0)
+add-if2 : tie.Need-overflow_add-n
+add-if2 c = omega (arith, c.shared_slice_known-2-1.given 0)
 
-returns-2 : tie.Need-returns-2
-returns-2 c = sym (ap (λ (t : Bool). cond {A = ℕ} t 13 0) (lt-ltb _ _ c.if2.true)) ∙ first_passed _ _ (none c.before.before)
+returns-2 : tie.Need-returns-then-totals-n
+returns-2 c = sym (ap (λ (t : Bool). cond {A = ℕ} t 13 0) (lt-ltb _ _ c.if-totals-n.true)) ∙ first_passed _ _ (none c.before.before)
 
-returns-3 : tie.Need-returns-3
-returns-3 c = sym (ap (λ (t : Bool). cond {A = ℕ} t 13 0) (le-ltb _ _ c.if2.false)) ∙ first_passed _ _ (none c.before.before)
+returns-3 : tie.Need-returns
+returns-3 c = sym (ap (λ (t : Bool). cond {A = ℕ} t 13 0) (le-ltb _ _ c.if-totals-n.false)) ∙ first_passed _ _ (none c.before.before)
 
 pub totals_refusal_spec : {M : Type 1} → statement M
 totals_refusal_spec =
