@@ -10,44 +10,44 @@ use Rattle.hops.proofs.list_hops.Lts as lts
 use Rattle.hops.proofs.count_hops.Reads as count-hops-reads
 use Rattle.hops.proofs.write_hops.Reads as write-hops-reads
 
-count-hops-requires : tie.Need-count-hops-requires
+count-hops-requires : tie.Need-count_hops-found-requires
 count-hops-requires c κs = search rules
 
-returns : tie.Need-returns
+returns : tie.Need-returns-then-refusal-ne0
 returns c =
-    let x = c.before.before.before.before.args in
+    let x = c.args in
     let s = x.index.now in
     let l = hops s x.last x.first in
-    hops_stopped (zero_met s l) l x.out.now _ c.before.count-hops.ensures c.if1.true
+    hops_stopped (zero_met s l) l x.out.now _ c.count_hops-found.ensures c.if-refusal-ne0.true
 
-returns-2 : tie.Need-returns-2
+returns-2 : tie.Need-returns-then-out-len
 returns-2 c =
-    let x = c.before.before.before.before.before.args in
+    let x = c.args in
     let s = x.index.now in
     let l = hops s x.last x.first in
-    let o = hops_open (zero_met s l) l _ c.before.before.count-hops.ensures c.before.if1.false in
+    let o = hops_open (zero_met s l) l _ c.count_hops-found.ensures c.if-refusal-ne0.false in
     hops_long (zero_met s l) l x.out.now o.0 (omega (arith, o.1))
 
-write-hops-requires : tie.Need-write-hops-requires
+write-hops-requires : tie.Need-write_hops-requires
 write-hops-requires c κs =
     let p = c.before.before.before.before.before.before in
     let s = p.args.index.now in
     let l = hops s p.args.last p.args.first in
-    let o = hops_open (zero_met s l) l _ c.before.before.before.count-hops.ensures c.before.before.if1.false in
+    let o = hops_open (zero_met s l) l _ c.count_hops-found.ensures c.if-refusal-ne0.false in
     ((p.requires, o.0), omega (arith, o.1))
 
-same_length : tie.Need-same-length
+same_length : tie.Need-shape_of-out
 same_length c = search rules
 
-returns-3 : tie.Need-returns-3
+returns-3 : tie.Need-returns
 returns-3 c =
     let e = c.before.before.before.before.before in
-    let x = e.before.before.before.before.args in
+    let x = e.args in
     let s = x.index.now in
     let l = hops s x.last x.first in
-    let f = e.before.count-hops.ensures in
-    let o = hops_open (zero_met s l) l _ f e.if1.false in
-    hops_fit (zero_met s l) l x.out.now _ _ o.0 (omega (arith, o.1)) f c.before.before.write-hops.ensures
+    let f = e.count_hops-found.ensures in
+    let o = hops_open (zero_met s l) l _ f e.if-refusal-ne0.false in
+    hops_fit (zero_met s l) l x.out.now _ _ o.0 (omega (arith, o.1)) f c.write_hops.ensures
 
 pub list_hops_spec : {M : Type 1} → statement M
 list_hops_spec =

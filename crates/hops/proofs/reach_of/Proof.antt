@@ -18,48 +18,48 @@ use Rattle.spans.proofs.span_refusal.Reads as span-refusal-reads
 abbrev end : ℕ → Reach
 end n = record { refusal = 0; last = n }
 
-ok : (c : tie.Else2) → Span c.before.before.before.before.args.index.now c.before.before.before.before.args.parent
-ok c = span _ _ (sym c.before.span-refusal.ensures ∙ c.if2.false)
+ok : (c : tie.Else-spanned-ne0) → Span c.args.index.now c.args.parent
+ok c = span _ _ (sym c.span_refusal-spanned.ensures ∙ c.if-spanned-ne0.false)
 
-shared-slice-read-n : tie.Need-shared-slice-read-n
-shared-slice-read-n c = let h = contents _ c.before.before.before.requires in omega arith
+shared-slice-read-n : tie.Need-bounds-index-0
+shared-slice-read-n c = let h = contents _ c.requires in omega arith
 
-cast-n : tie.Need-overflow-cast-n
-cast-n c = omega (arith, c.shared-slice-known2.given 0)
+cast-n : tie.Need-overflow_cast-n
+cast-n c = omega (arith, c.shared_slice_known-then-parent-eq0-1.given 0)
 
-returns : tie.Need-returns
+returns : tie.Need-returns-then-parent-eq0
 returns c =
     let s = c.before.before.before in
-    let z = c.before.if1.true in
+    let z = c.if-parent-eq0.true in
     simp (no_parent_lem s.args.index.now s.args.parent z, eq-eqb s.args.parent 0 z)
 
-span-refusal-requires : tie.Need-span-refusal-requires
+span-refusal-requires : tie.Need-span_refusal-spanned-requires
 span-refusal-requires c κs = search rules
 
-returns-2 : tie.Need-returns-2
+returns-2 : tie.Need-returns-then-spanned-ne0
 returns-2 c =
     let s = c.before.before.before.before in
-    simp (parent_bad s.args.index.now s.args.parent s.requires c.before.before.if1.false (λ z. c.if2.true (c.before.span-refusal.ensures ∙ z)))
+    simp (parent_bad s.args.index.now s.args.parent s.requires c.if-parent-eq0.false (λ z. c.if-spanned-ne0.true (c.span_refusal-spanned.ensures ∙ z)))
 
-size-at-requires : tie.Need-size-at-requires
+size-at-requires : tie.Need-size_at-size-requires
 size-at-requires c κs = search rules
 
-cast-size : tie.Need-overflow-cast-size
+cast-size : tie.Need-overflow_cast-size
 cast-size c = search rules
 
-add-t11 : tie.Need-overflow-add-t11
+add-t11 : tie.Need-overflow_add-result
 add-t11 c = search rules
 
-sub-t12 : tie.Need-overflow-sub-t12
+sub-t12 : tie.Need-overflow_sub-result
 sub-t12 c = let h = ok c.before in omega arith
 
-returns-3 : tie.Need-returns-3
+returns-3 : tie.Need-returns
 returns-3 c =
     let e = c.before in
     let s = e.before.before.before.before in
-    let n = e.before.before.if1.false in
-    simp (parent_fine s.args.index.now s.args.parent s.requires n (sym e.before.span-refusal.ensures ∙ e.if2.false), ne_eqb s.args.parent 0 n)
-    (ap (λ (m : ℕ). end (s.args.parent + m - 1)) c.size-at.ensures)
+    let n = e.if-parent-eq0.false in
+    simp (parent_fine s.args.index.now s.args.parent s.requires n (sym e.span_refusal-spanned.ensures ∙ e.if-spanned-ne0.false), ne_eqb s.args.parent 0 n)
+    (ap (λ (m : ℕ). end (s.args.parent + m - 1)) c.size_at-size.ensures)
 
 pub reach_of_spec : {M : Type 1} → statement M
 reach_of_spec =

@@ -21,57 +21,57 @@ use Rattle.spans.proofs.rank_refusal.Reads as rank-refusal-reads
 use Rattle.hops.proofs.reach_of.Reads as reach-of-reads
 use Rattle.hops.proofs.list_hops.Reads as list-hops-reads
 
-none : (c : tie.Else1) → rank_refusal c.before.before.before.before.args.index.now c.before.before.before.before.args.rank ≡ 0
-none c = sym c.before.rank-refusal.ensures ∙ c.if1.false
+none : (c : tie.Else-refusal-ne0) → rank_refusal c.args.index.now c.args.rank ≡ 0
+none c = sym c.rank_refusal-refusal.ensures ∙ c.if-refusal-ne0.false
 
-good : (c : tie.Else1) → bad_contents c.before.before.before.before.args.index.now ≡ false
-good c = (cond_none (bad_contents c.before.before.before.before.args.index.now) 13 _ (omega arith) (none c)).0
+good : (c : tie.Else-refusal-ne0) → bad_contents c.args.index.now ≡ false
+good c = (cond_none (bad_contents c.args.index.now) 13 _ (omega arith) (none c)).0
 
 -- the parent isn't bad, the last rank is the last below it, and both are within the index
-far : (c : tie.Else2) → let x = c.before.before.before.before.before.before.before.args in
+far : (c : tie.Else-stopped-ne0) → let x = c.args in
     let s = x.index.now in
     let p = parent_at s x.rank in
-    (bad_parent s p ≡ false) × (c.before.reach_of.result.last ≡ parent_end s p) × (p ≤ node_count s) × (parent_end s p ≤ node_count s)
+    (bad_parent s p ≡ false) × (c.reach_of-reach.result.last ≡ parent_end s p) × (p ≤ node_count s) × (parent_end s p ≤ node_count s)
 far c =
-    let x = c.before.before.before.before.before.before.before.args in
+    let x = c.args in
     let s = x.index.now in
     let p = parent_at s x.rank in
-    let f = reach_fine (bad_parent s p) (parent_end s p) _ (c.before.reach_of.ensures ∙ ap (reached s) c.before.before.parent-at.ensures) c.if2.false in
+    let f = reach_fine (bad_parent s p) (parent_end s p) _ (c.reach_of-reach.ensures ∙ ap (reached s) c.parent_at-parent.ensures) c.if-stopped-ne0.false in
     let w = parent_within s p f.0 in
     (f.0, f.1, w.0, w.1)
 
-rank-refusal-requires : tie.Need-rank-refusal-requires
+rank-refusal-requires : tie.Need-rank_refusal-refusal-requires
 rank-refusal-requires c κs = search rules
 
-returns : tie.Need-returns
+returns : tie.Need-returns-then-refusal-ne0
 returns c =
-    let x = c.before.before.before.before.args in
+    let x = c.args in
     let s = x.index.now in
     let y : ℕ = cond (bad_hops s x.rank) 15 0 in
-    rank_refused (rank_refusal s x.rank) y _ (sibling_hops s x.rank) x.out.now c.before.rank-refusal.ensures c.if1.true
+    rank_refused (rank_refusal s x.rank) y _ (sibling_hops s x.rank) x.out.now c.rank_refusal-refusal.ensures c.if-refusal-ne0.true
 
-parent-at-requires : tie.Need-parent-at-requires
+parent-at-requires : tie.Need-parent_at-parent-requires
 parent-at-requires c κs = search rules
 
-reach-of-requires : tie.Need-reach-of-requires
+reach-of-requires : tie.Need-reach_of-reach-requires
 reach-of-requires c κs = good c.before
 
-returns-2 : tie.Need-returns-2
+returns-2 : tie.Need-returns-then-stopped-ne0
 returns-2 c =
     let e = c.before.before.before in
-    let x = e.before.before.before.before.args in
+    let x = e.args in
     let s = x.index.now in
     let p = parent_at s x.rank in
-    let f = reach_bad (bad_parent s p) (parent_end s p) _ (c.before.reach_of.ensures ∙ ap (reached s) c.before.before.parent-at.ensures) c.if2.true in
+    let f = reach_bad (bad_parent s p) (parent_end s p) _ (c.reach_of-reach.ensures ∙ ap (reached s) c.parent_at-parent.ensures) c.if-stopped-ne0.true in
     parent_refused (rank_refusal s x.rank) (bad_parent s p) (zero_met s (sibling_hops s x.rank)) _ (sibling_hops s x.rank) x.out.now (none e) f.0 f.1
 
-cast-first : tie.Need-overflow-cast-first
+cast-first : tie.Need-overflow_cast-first
 cast-first c = search rules
 
-add-first : tie.Need-overflow-add-first
+add-first : tie.Need-overflow_add-first
 add-first c = search rules
 
-list-hops-requires : tie.Need-list-hops-requires
+list-hops-requires : tie.Need-list_hops-requires
 list-hops-requires c κs =
     let e = c.before in
     let h = far e in
@@ -79,19 +79,19 @@ list-hops-requires c κs =
     let t = g.held in
     omega arith
 
-same_length : tie.Need-same-length
+same_length : tie.Need-shape_of-out
 same_length c = search rules
 
-returns-3 : tie.Need-returns-3
+returns-3 : tie.Need-returns
 returns-3 c =
     let f = c.before.before.before.before in
     let e = f.before.before.before in
-    let x = e.before.before.before.before.args in
+    let x = e.args in
     let s = x.index.now in
     let p = parent_at s x.rank in
     let r = far f in
-    let a = c.before.before.list-hops.ensures in
-    let first = ap (λ (m : ℕ). m + 1) f.before.before.parent-at.ensures in
+    let a = c.list_hops.ensures in
+    let first = ap (λ (m : ℕ). m + 1) f.parent_at-parent.ensures in
     hops_made s (rank_refusal s x.rank) (bad_parent s p) (parent_end s p) (p + 1) (none e) r.0 x.out.now _ _ _ _ r.1 first a.0 a.1
 
 pub siblings_by_hops_spec : {M : Type 1} → statement M
