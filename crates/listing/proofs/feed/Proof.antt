@@ -11,76 +11,75 @@ use Rattle.listing.proofs.Turns.{feed_refused, feed_bad, feed_end, feed_row, fee
 use Rattle.listing.proofs.feed.Statement.{statement}
 use Rattle.listing.proofs.feed.Tie as tie
 
-abbrev invariant-loop : tie.invariant-loop
+abbrev invariant-loop : tie.invariant-loop-at
 invariant-loop chunk now₀ at₀ now at = feed_of now (drop at chunk) ≡ feed_of now₀ (drop at₀ chunk)
 
-abbrev decreases-loop : tie.decreases-loop
+abbrev decreases-loop : tie.decreases-loop-at
 decreases-loop chunk now₀ at₀ now at = length chunk - at
 
-loop-holds : tie.Need-loop-init invariant-loop decreases-loop
+loop-holds : tie.Need-loop-at-init invariant-loop decreases-loop
 loop-holds c = search rules
 
-returns : tie.Need-returns invariant-loop decreases-loop
+returns : tie.Need-returns-then-now-ne0 invariant-loop decreases-loop
 returns c =
-    let s = c.before.before.before.before.before.args.chunk.now in
-    let l = c.before.before.before.loop in
-    feed_refused l.now (drop l.at s) c.if1.true ∙ l.invariant
+    let s = c.args.chunk.now in
+    let l = c.loop-at in
+    feed_refused l.now (drop l.at s) c.if-now-ne0.true ∙ l.invariant
 
-returns-2 : tie.Need-returns-2 invariant-loop decreases-loop
+returns-2 : tie.Need-returns-then-now invariant-loop decreases-loop
 returns-2 c =
-    let s = c.before.before.before.before.before.before.args.chunk.now in
-    let l = c.before.before.before.before.loop in
-    feed_bad l.now (drop l.at s) c.if2.true ∙ l.invariant
+    let s = c.args.chunk.now in
+    let l = c.loop-at in
+    feed_bad l.now (drop l.at s) c.if-now.true ∙ l.invariant
 
 next-requires : tie.Need-next-requires invariant-loop decreases-loop
 next-requires c κs = search rules
 
-enum-known-parent : tie.Need-enum-known-parent invariant-loop decreases-loop
+enum-known-parent : tie.Need-enum_known-parent invariant-loop decreases-loop
 enum-known-parent c = search rules
 
-enter-requires : tie.Need-enter-requires invariant-loop decreases-loop
+enter-requires : tie.Need-enter-now-requires invariant-loop decreases-loop
 enter-requires c κs = search rules
 
-loop-less : tie.Need-loop-smaller invariant-loop decreases-loop
+loop-less : tie.Need-loop-at-smaller invariant-loop decreases-loop
 loop-less c =
-    let s = c.before.before.before.before.before.before.before.before.before.before.before.before.args.chunk.now in
-    let l = c.before.before.before.before.before.before.before.before.before.before.loop in
-    let later = feed_later l.now s l.at c.before.before.before.before.before.before.before.if1.false c.before.before.before.before.before.before.if2.false c.before.before.before.before.next.result c.before.before.before.before.next.ensures _ _ _ _ _ c.before.before.parent.given.1 in
-    omega (arith, later, c.before.before.before.before.before.before.before.before.before.loop-test.true)
+    let s = c.args.chunk.now in
+    let l = c.loop-at in
+    let later = feed_later l.now s l.at c.if-now-ne0.false c.if-now.false c.next.result c.next.ensures _ _ _ _ _ c.in-Row.is in
+    omega (arith, later, c.loop-at-test.true)
 
-loop-again : tie.Need-loop-preserved invariant-loop decreases-loop
+loop-again : tie.Need-loop-at-preserved invariant-loop decreases-loop
 loop-again c =
-    let s = c.before.before.before.before.before.before.before.before.before.before.before.before.args.chunk.now in
-    let l = c.before.before.before.before.before.before.before.before.before.before.loop in
-    let v = c.before.before.parent.given in
-    sym (feed_row l.now s l.at c.before.before.before.before.before.before.before.if1.false c.before.before.before.before.before.before.if2.false c.before.before.before.before.next.result c.before.before.before.before.next.ensures _ _ _ _ _ _ c.enter.result v.1 (to_z-of_z {w = w32} {z = v.0.1.1.1.0} (search rules)) c.enter.ensures) ∙ l.invariant
+    let s = c.args.chunk.now in
+    let l = c.loop-at in
+    sym (feed_row l.now s l.at c.if-now-ne0.false c.if-now.false c.next.result c.next.ensures _ _ _ _ _ _ c.enter-now.result c.in-Row.is (to_z-of_z {w = w32} {z = c.in-Row.minutes} (search rules)) c.enter-now.ensures) ∙ l.invariant
 
-enum_told : tie.Need-enum-told invariant-loop decreases-loop
+enum_told : tie.Need-enum_told-1 invariant-loop decreases-loop
 enum_told c = search rules
 
-bad-line-requires : tie.Need-bad-line-requires invariant-loop decreases-loop
+bad-line-requires : tie.Need-bad_line-requires invariant-loop decreases-loop
 bad-line-requires c κs = search rules
 
-returns-3 : tie.Need-returns-3 invariant-loop decreases-loop
+returns-3 : tie.Need-returns-in-Bad invariant-loop decreases-loop
 returns-3 c =
-    let s = c.before.before.before.before.before.before.before.before.before.before.before.args.chunk.now in
-    let l = c.before.before.before.before.before.before.before.before.before.loop in
-    c.bad-line.ensures ∙ feed_bad_line l.now s l.at c.before.before.before.before.before.before.if1.false c.before.before.before.before.before.if2.false c.before.before.before.next.result c.before.before.before.next.ensures c.before.enum_told.given.1 ∙ l.invariant
+    let s = c.args.chunk.now in
+    let l = c.loop-at in
+    c.bad_line.ensures ∙ feed_bad_line l.now s l.at c.if-now-ne0.false c.if-now.false c.next.result c.next.ensures c.in-Bad.is ∙ l.invariant
 
-enum-known-q : tie.Need-enum-known-q invariant-loop decreases-loop
+enum-known-q : tie.Need-enum_known-q invariant-loop decreases-loop
 enum-known-q c = search rules
 
-returns-4 : tie.Need-returns-4 invariant-loop decreases-loop
+returns-4 : tie.Need-returns-in-More invariant-loop decreases-loop
 returns-4 c =
-    let s = c.before.before.before.before.before.before.before.before.before.before.before.args.chunk.now in
-    let l = c.before.before.before.before.before.before.before.before.before.loop in
-    feed_more l.now s l.at c.before.before.before.before.before.before.if1.false c.before.before.before.before.before.if2.false c.before.before.before.next.result c.before.before.before.next.ensures c.before.q.given.0.0 c.before.q.given.1 ∙ l.invariant
+    let s = c.args.chunk.now in
+    let l = c.loop-at in
+    feed_more l.now s l.at c.if-now-ne0.false c.if-now.false c.next.result c.next.ensures c.in-More.q c.in-More.is ∙ l.invariant
 
-returns-5 : tie.Need-returns-5 invariant-loop decreases-loop
+returns-5 : tie.Need-returns invariant-loop decreases-loop
 returns-5 c =
-    let s = c.before.before.before.args.chunk.now in
-    let l = c.before.loop in
-    feed_end l.now s l.at c.loop-test.false ∙ l.invariant
+    let s = c.args.chunk.now in
+    let l = c.loop-at in
+    feed_end l.now s l.at c.loop-at-test.false ∙ l.invariant
 
 pub feed_spec : {M : Type 1} → statement M
 feed_spec =

@@ -8,7 +8,7 @@ new-requires : tie.Need-new-requires
 new-requires c κs = search rules
 
 returns : tie.Need-returns
-returns c = spoiled c.before.before.args.self c.new.result c.new.ensures
+returns c = spoiled c.args.self c.new.result c.new.ensures
 
 pub bad_line_spec : {M : Type 1} → statement M
 bad_line_spec = tie.close (tie.spec new-requires returns)

@@ -11,7 +11,7 @@ empty-requires : tie.Need-empty-requires
 empty-requires c κs = search rules
 
 returns : tie.Need-returns
-returns c = started c.before.new.result c.empty.result c.before.new.ensures c.empty.ensures
+returns c = started c.new.result c.empty.result c.new.ensures c.empty.ensures
 
 pub start_spec : {M : Type 1} → statement M
 start_spec = tie.close (tie.spec new-requires empty-requires returns)
