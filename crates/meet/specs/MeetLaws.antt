@@ -46,6 +46,7 @@ largest_first k (x ∷ l) = omega (arith, larger_first k x, largest_first (cond 
 
 largest_most : (k : ℕ) (l : List ℕ) (x : ℕ) → x ∈ (k ∷ l) → x ≤ largest k l
 largest_most k l x (inl e) = omega (arith, e, largest_first k l)
+largest_most k [] x (inr m) = elim m [ ]
 largest_most k (y ∷ l) x (inr (inl e)) = omega (arith, e, larger_second k y, largest_first (cond (ltb k y) y k) l)
 largest_most k (y ∷ l) x (inr (inr m)) = largest_most (cond (ltb k y) y k) l x (inr m)
 
@@ -58,6 +59,7 @@ met_at k = record { refusal = 0; found = true; rank = k }
 
 -- the number of a list that no other is above
 pub meets_at : (l : List ℕ) (k : ℕ) → k ∈ l → ((x : ℕ) → x ∈ l → x ≤ k) → meeting_of l ≡ met_at k
+meets_at [] k m h = elim m [ ]
 meets_at (x ∷ l) k m h = let e : largest x l ≡ k = omega (arith, largest_most x l k m, h (largest x l) (largest_in x l)) in ap met_at e
 
 pub meets_nowhere : (l : List ℕ) → ((x : ℕ) → x ∈ l → ⊥) → meeting_of l ≡ refused 0

@@ -16,28 +16,28 @@ use Rattle.meet.proofs.climbs_meet.Reads as climbs-meet-reads
 use Rattle.meet.proofs.ranks_refusal.Reads as ranks-refusal-reads
 use Rattle.meet.proofs.refused.Reads as refused-reads
 
-ranks-refusal-requires : tie.Need-ranks-refusal-requires
+ranks-refusal-requires : tie.Need-ranks_refusal-refusal-requires
 ranks-refusal-requires c κs = search rules
 
 refused-requires : tie.Need-refused-requires
 refused-requires c κs = search rules
 
-returns : tie.Need-returns
-returns c = c.refused.ensures ∙ ranks_refused _ _ _ _ c.before.before.ranks-refusal.ensures c.before.if1.true
+returns : tie.Need-returns-then-refusal-ne0
+returns c = c.refused.ensures ∙ ranks_refused _ _ _ _ c.ranks_refusal-refusal.ensures c.if-refusal-ne0.true
 
 -- both ranks are passed
-passed : (c : tie.Else1) → let x = c.before.before.before.args in first_of (rank_refusal x.index.now x.a) (rank_refusal x.index.now x.b) ≡ 0
-passed c = sym c.before.ranks-refusal.ensures ∙ c.if1.false
+passed : (c : tie.Else-refusal-ne0) → let x = c.args in first_of (rank_refusal x.index.now x.a) (rank_refusal x.index.now x.b) ≡ 0
+passed c = sym c.ranks_refusal-refusal.ensures ∙ c.if-refusal-ne0.false
 
-climbs-meet-requires : tie.Need-climbs-meet-requires
+climbs-meet-requires : tie.Need-climbs_meet-requires
 climbs-meet-requires c κs =
     let z = first_zero _ _ (passed c) in
     let a = ranked _ _ z.0 in
     let b = ranked _ _ z.1 in
     (omega (arith, a.high, a.held), omega (arith, b.high, b.held), omega (arith, a.high, a.held), omega (arith, b.high, b.held))
 
-returns-2 : tie.Need-returns-2
-returns-2 c = c.climbs-meet.ensures ∙ ranks_passed _ _ _ (passed c.before)
+returns-2 : tie.Need-returns
+returns-2 c = c.climbs_meet.ensures ∙ ranks_passed _ _ _ (passed c.before)
 
 pub meet_spec : {M : Type 1} → statement M
 meet_spec =
