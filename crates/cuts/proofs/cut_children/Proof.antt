@@ -10,104 +10,104 @@ use Rattle.cuts.specs.CutLaws.{cut_child, row_named, cut_none, cut_stays, cut_go
 use Rattle.cuts.proofs.cut_children.Statement.{statement}
 use Rattle.cuts.proofs.cut_children.Tie as tie
 
-abbrev invariant-loop : tie.invariant-loop
+abbrev invariant-loop : tie.invariant-loop-p
 invariant-loop table₀ reached n p₀ table p =
     Filled 3 (cut_child reached table₀) table₀ table p × (n ≡ length table₀ / 8)
 
-abbrev decreases-loop : tie.decreases-loop
+abbrev decreases-loop : tie.decreases-loop-p
 decreases-loop table₀ reached n p₀ table p =
     n - p
 
-rows-requires : tie.Need-rows-requires invariant-loop decreases-loop
+rows-requires : tie.Need-rows-n-requires invariant-loop decreases-loop
 rows-requires c κs = search rules
 
-cast-n : tie.Need-overflow-cast-n invariant-loop decreases-loop
+cast-n : tie.Need-overflow_cast-n invariant-loop decreases-loop
 cast-n c =
-    omega (arith, c.before.before.before.before.requires.1, c.rows.ensures 0)
+    omega (arith, c.requires.1, c.rows-n.ensures 0)
 
-loop-holds : tie.Need-loop-init invariant-loop decreases-loop
+loop-holds : tie.Need-loop-p-init invariant-loop decreases-loop
 loop-holds c =
-    (filled_start 3 _ _, omega (arith, c.rows.ensures 0, column_length 0 c.before.before.before.before.args.table.now))
+    (filled_start 3 _ _, omega (arith, c.rows-n.ensures 0, column_length 0 c.args.table.now))
 
-word-requires : tie.Need-word-requires invariant-loop decreases-loop
+word-requires : tie.Need-word-q-requires invariant-loop decreases-loop
 word-requires c κs =
-    let l = c.before.before.loop in
-    omega (arith, c.before.loop-test.true, l.invariant.1, l.invariant.0.long, column_length 3 l.table)
+    let l = c.loop-p in
+    omega (arith, c.loop-p-test.true, l.invariant.1, l.invariant.0.long, column_length 3 l.table)
 
-add-p : tie.Need-overflow-add-p invariant-loop decreases-loop
+add-p : tie.Need-overflow_add-p invariant-loop decreases-loop
 add-p c =
-    omega (arith, c.before.before.before.loop-test.true, c.before.before.before.before.loop.invariant.1, c.before.before.before.before.before.before.before.before.before.requires.1, column_length 0 c.before.before.before.before.before.before.before.before.before.args.table.now)
+    omega (arith, c.loop-p-test.true, c.loop-p.invariant.1, c.requires.1, column_length 0 c.args.table.now)
 
-loop-less : tie.Need-loop-smaller invariant-loop decreases-loop
+loop-less : tie.Need-loop-p-smaller-then-n-q invariant-loop decreases-loop
 loop-less c =
-    omega (arith, c.before.before.before.loop-test.true)
+    omega (arith, c.loop-p-test.true)
 
-loop-again : tie.Need-loop-preserved invariant-loop decreases-loop
+loop-again : tie.Need-loop-p-preserved-then-n-q invariant-loop decreases-loop
 loop-again c =
-    let l = c.before.before.before.before.loop in
-    (cut_none _ _ _ _ _ _ l.invariant.0 l.invariant.1 (omega (arith, c.before.before.before.loop-test.true, l.invariant.1)) c.before.word.ensures c.if1.true, l.invariant.1)
+    let l = c.loop-p in
+    (cut_none _ _ _ _ _ _ l.invariant.0 l.invariant.1 (omega (arith, c.loop-p-test.true, l.invariant.1)) c.word-q.ensures c.if-n-q.true, l.invariant.1)
 
-word-requires-2 : tie.Need-word-requires-2 invariant-loop decreases-loop
+word-requires-2 : tie.Need-word-x-requires invariant-loop decreases-loop
 word-requires-2 c κs =
-    let l = c.before.before.before.before.before.loop in
-    omega (arith, c.before.if1.false, l.invariant.1, l.invariant.0.long, column_length 0 l.table)
+    let l = c.loop-p in
+    omega (arith, c.if-n-q.false, l.invariant.1, l.invariant.0.long, column_length 0 l.table)
 
-cast-x : tie.Need-overflow-cast-x invariant-loop decreases-loop
+cast-x : tie.Need-overflow_cast-x invariant-loop decreases-loop
 cast-x c = search rules
 
-sub-if2 : tie.Need-overflow-sub-if2 invariant-loop decreases-loop
+sub-if2 : tie.Need-overflow_sub-x invariant-loop decreases-loop
 sub-if2 c =
-    let l = c.before.before.before.before.before.before.loop in
-    omega (arith, row_named _ _ _ _ _ c.before.before.before.before.before.before.before.before.before.before.before.requires.0 (l.invariant.0.others 0 (omega arith) (omega arith)) (omega (arith, c.before.before.if1.false, l.invariant.1)) c.word2.ensures)
+    let l = c.loop-p in
+    omega (arith, row_named _ _ _ _ _ c.requires.0 (l.invariant.0.others 0 (omega arith) (omega arith)) (omega (arith, c.if-n-q.false, l.invariant.1)) c.word-x.ensures)
 
-mul-if2 : tie.Need-overflow-mul-if2 invariant-loop decreases-loop
+mul-if2 : tie.Need-offset_bounds-reached-x invariant-loop decreases-loop
 mul-if2 c =
-    let l = c.before.before.before.before.before.before.loop in
-    omega (arith, row_named _ _ _ _ _ c.before.before.before.before.before.before.before.before.before.before.before.requires.0 (l.invariant.0.others 0 (omega arith) (omega arith)) (omega (arith, c.before.before.if1.false, l.invariant.1)) c.word2.ensures, c.before.before.before.before.before.before.before.before.before.before.before.well-formed)
+    let l = c.loop-p in
+    omega (arith, row_named _ _ _ _ _ c.requires.0 (l.invariant.0.others 0 (omega arith) (omega arith)) (omega (arith, c.if-n-q.false, l.invariant.1)) c.word-x.ensures, c.well_formed)
 
-shared-slice-read-if2 : tie.Need-shared-slice-read-if2 invariant-loop decreases-loop
+shared-slice-read-if2 : tie.Need-bounds-reached-x invariant-loop decreases-loop
 shared-slice-read-if2 c =
-    let l = c.before.before.before.before.before.before.before.loop in
-    omega (arith, row_named _ _ _ _ _ c.before.before.before.before.before.before.before.before.before.before.before.before.requires.0 (l.invariant.0.others 0 (omega arith) (omega arith)) (omega (arith, c.before.before.before.if1.false, l.invariant.1)) c.before.word2.ensures)
+    let l = c.loop-p in
+    omega (arith, row_named _ _ _ _ _ c.requires.0 (l.invariant.0.others 0 (omega arith) (omega arith)) (omega (arith, c.if-n-q.false, l.invariant.1)) c.word-x.ensures)
 
-add-p-2 : tie.Need-overflow-add-p-2 invariant-loop decreases-loop
+add-p-2 : tie.Need-overflow_add-p-then-reached-x-eq0 invariant-loop decreases-loop
 add-p-2 c =
-    omega (arith, c.before.before.before.before.before.before.before.loop-test.true, c.before.before.before.before.before.before.before.before.loop.invariant.1, c.before.before.before.before.before.before.before.before.before.before.before.before.before.requires.1, column_length 0 c.before.before.before.before.before.before.before.before.before.before.before.before.before.args.table.now)
+    omega (arith, c.loop-p-test.true, c.loop-p.invariant.1, c.requires.1, column_length 0 c.args.table.now)
 
-loop-less-2 : tie.Need-loop-smaller-2 invariant-loop decreases-loop
+loop-less-2 : tie.Need-loop-p-smaller-then-reached-x-eq0 invariant-loop decreases-loop
 loop-less-2 c =
-    omega (arith, c.before.before.before.before.before.before.before.loop-test.true)
+    omega (arith, c.loop-p-test.true)
 
-loop-again-2 : tie.Need-loop-preserved-2 invariant-loop decreases-loop
+loop-again-2 : tie.Need-loop-p-preserved-then-reached-x-eq0 invariant-loop decreases-loop
 loop-again-2 c =
-    let l = c.before.before.before.before.before.before.before.before.loop in
-    (cut_stays _ _ _ _ _ _ l.invariant.0 l.invariant.1 (omega (arith, c.before.before.before.before.before.before.before.loop-test.true, l.invariant.1)) c.before.before.before.before.before.word.ensures _ _ c.before.before.before.before.if1.false c.before.before.word2.ensures refl c.if2.true, l.invariant.1)
+    let l = c.loop-p in
+    (cut_stays _ _ _ _ _ _ l.invariant.0 l.invariant.1 (omega (arith, c.loop-p-test.true, l.invariant.1)) c.word-q.ensures _ _ c.if-n-q.false c.word-x.ensures refl c.if-reached-x-eq0.true, l.invariant.1)
 
-set-child-requires : tie.Need-set-child-requires invariant-loop decreases-loop
+set-child-requires : tie.Need-set_child-requires invariant-loop decreases-loop
 set-child-requires c κs =
-    let l = c.before.before.before.before.before.before.before.before.before.loop in
-    omega (arith, c.before.before.before.before.before.before.before.before.loop-test.true, l.invariant.1, l.invariant.0.long, column_length 3 l.table)
+    let l = c.loop-p in
+    omega (arith, c.loop-p-test.true, l.invariant.1, l.invariant.0.long, column_length 3 l.table)
 
-add-p-3 : tie.Need-overflow-add-p-3 invariant-loop decreases-loop
+add-p-3 : tie.Need-overflow_add-p-in-loop-p invariant-loop decreases-loop
 add-p-3 c =
-    omega (arith, c.before.before.before.before.before.before.before.before.before.before.before.loop-test.true, c.before.before.before.before.before.before.before.before.before.before.before.before.loop.invariant.1, c.before.before.before.before.before.before.before.before.before.before.before.before.before.before.before.before.before.requires.1, column_length 0 c.before.before.before.before.before.before.before.before.before.before.before.before.before.before.before.before.before.args.table.now)
+    omega (arith, c.loop-p-test.true, c.loop-p.invariant.1, c.requires.1, column_length 0 c.args.table.now)
 
-loop-less-3 : tie.Need-loop-smaller-3 invariant-loop decreases-loop
+loop-less-3 : tie.Need-loop-p-smaller invariant-loop decreases-loop
 loop-less-3 c =
-    omega (arith, c.before.before.before.before.before.before.before.before.before.before.before.loop-test.true)
+    omega (arith, c.loop-p-test.true)
 
-loop-again-3 : tie.Need-loop-preserved-3 invariant-loop decreases-loop
+loop-again-3 : tie.Need-loop-p-preserved invariant-loop decreases-loop
 loop-again-3 c =
-    let l = c.before.before.before.before.before.before.before.before.before.before.before.before.loop in
-    (cut_goes _ _ _ _ _ _ l.invariant.0 l.invariant.1 (omega (arith, c.before.before.before.before.before.before.before.before.before.before.before.loop-test.true, l.invariant.1)) c.before.before.before.before.before.before.before.before.before.word.ensures _ _ _ c.before.before.before.before.before.before.before.before.if1.false c.before.before.before.before.before.before.word2.ensures refl c.before.before.before.before.if2.false c.before.before.set-child.ensures, l.invariant.1)
+    let l = c.loop-p in
+    (cut_goes _ _ _ _ _ _ l.invariant.0 l.invariant.1 (omega (arith, c.loop-p-test.true, l.invariant.1)) c.word-q.ensures _ _ _ c.if-n-q.false c.word-x.ensures refl c.if-reached-x-eq0.false c.set_child.ensures, l.invariant.1)
 
-same_length : tie.Need-same-length invariant-loop decreases-loop
+same_length : tie.Need-shape_of-table invariant-loop decreases-loop
 same_length c =
-    c.before.loop.invariant.0.long
+    c.loop-p.invariant.0.long
 
 returns : tie.Need-returns invariant-loop decreases-loop
 returns c =
-    cut_all _ _ _ _ (omega (arith, c.loop-test.false, c.before.loop.invariant.1)) c.before.loop.invariant.0
+    cut_all _ _ _ _ (omega (arith, c.loop-p-test.false, c.loop-p.invariant.1)) c.loop-p.invariant.0
 
 pub cut_children_spec : {M : Type 1} → statement M
 cut_children_spec =

@@ -9,72 +9,72 @@ use Rattle.cuts.specs.ClassLaws.{Cutting, class_in, cutting_start, cutting_up, c
 use Rattle.cuts.proofs.cut_class.Statement.{statement}
 use Rattle.cuts.proofs.cut_class.Tie as tie
 
-abbrev invariant-loop : tie.invariant-loop
+abbrev invariant-loop : tie.invariant-loop-q
 invariant-loop p table₀ n c q₀ table q = Cutting table₀ table c q × (n ≡ length (child_column table₀))
 
-abbrev decreases-loop : tie.decreases-loop
+abbrev decreases-loop : tie.decreases-loop-q
 decreases-loop p table₀ n c q₀ table q = n - q
 
-rows-requires : tie.Need-rows-requires invariant-loop decreases-loop
+rows-requires : tie.Need-rows-n-requires invariant-loop decreases-loop
 rows-requires c κs = search rules
 
-cast-n : tie.Need-overflow-cast-n invariant-loop decreases-loop
+cast-n : tie.Need-overflow_cast-n invariant-loop decreases-loop
 cast-n c =
-    omega (arith, c.rows.ensures 6, c.before.before.before.requires.0.few)
+    omega (arith, c.rows-n.ensures 6, c.requires.0.few)
 
 word-requires : tie.Need-word-requires invariant-loop decreases-loop
 word-requires c κs =
-    omega (arith, c.before.before.before.before.requires.1)
+    omega (arith, c.requires.1)
 
-same_length : tie.Need-same-length invariant-loop decreases-loop
+same_length : tie.Need-shape_of-table-then-n-word invariant-loop decreases-loop
 same_length c =
     refl
 
-returns : tie.Need-returns invariant-loop decreases-loop
+returns : tie.Need-returns-then-n-word invariant-loop decreases-loop
 returns c =
-    cut_nothing _ _ c.before.before.before.before.before.before.requires.0 c.before.before.before.before.before.before.requires.1 (omega (arith, c.before.before.before.rows.ensures 3, c.before.word.ensures, c.if1.true))
+    cut_nothing _ _ c.requires.0 c.requires.1 (omega (arith, c.rows-n.ensures 3, c.word.ensures, c.if-n-word.true))
 
-word-requires-2 : tie.Need-word-requires-2 invariant-loop decreases-loop
+word-requires-2 : tie.Need-word-c-requires invariant-loop decreases-loop
 word-requires-2 c κs =
-    omega (arith, c.before.before.before.before.before.before.before.requires.1, columns_long 3 5 c.before.before.before.before.before.before.before.args.table.now)
+    omega (arith, c.requires.1, columns_long 3 5 c.args.table.now)
 
-word-requires-3 : tie.Need-word-requires-3 invariant-loop decreases-loop
+word-requires-3 : tie.Need-word-q-requires invariant-loop decreases-loop
 word-requires-3 c κs =
-    omega (arith, class_in _ _ _ c.before.before.before.before.before.before.before.before.before.requires.0 c.before.before.before.before.before.before.before.before.before.requires.1 c.before.word2.ensures)
+    omega (arith, class_in _ _ _ c.requires.0 c.requires.1 c.word-c.ensures)
 
-loop-holds : tie.Need-loop-init invariant-loop decreases-loop
+loop-holds : tie.Need-loop-q-init invariant-loop decreases-loop
 loop-holds c =
-    (cutting_start _ _ _ c.before.before.before.before.before.before.before.before.before.before.requires.0 c.before.before.before.before.before.before.before.before.before.before.requires.1 c.before.before.word2.ensures _ (ap (λ (x : ℕ). x / 2097152) c.word3.ensures), c.before.before.before.before.before.before.before.rows.ensures 3)
+    (cutting_start _ _ _ c.requires.0 c.requires.1 c.word-c.ensures _ (ap (λ (x : ℕ). x / 2097152) c.word-q.ensures), c.rows-n.ensures 3)
 
-set-child-requires : tie.Need-set-child-requires invariant-loop decreases-loop
+set-child-requires : tie.Need-set_child-requires invariant-loop decreases-loop
 set-child-requires c κs =
-    let l = c.before.before.loop in
-    omega (arith, c.before.loop-test.true, l.invariant.1, columns_kept_long 3 3 c.before.before.before.before.before.before.before.before.before.before.before.before.before.args.table.now l.table l.invariant.0.long)
+    let l = c.loop-q in
+    omega (arith, c.loop-q-test.true, l.invariant.1, columns_kept_long 3 3 c.args.table.now l.table l.invariant.0.long)
 
-word-requires-4 : tie.Need-word-requires-4 invariant-loop decreases-loop
+word-requires-4 : tie.Need-word-requires-in-loop-q invariant-loop decreases-loop
 word-requires-4 c κs =
-    let l = c.before.before.before.before.before.before.loop in
-    let s = c.before.before.before.set-child.ensures in
-    omega (arith, c.before.before.before.before.before.loop-test.true, l.invariant.1, columns_kept_long 6 3 c.before.before.before.before.before.before.before.before.before.before.before.before.before.before.before.before.before.args.table.now c.before.before.before.set-child.new.0 (s.long ∙ l.invariant.0.long))
+    let l = c.loop-q in
+    let s = c.set_child.ensures in
+    omega (arith, c.loop-q-test.true, l.invariant.1, columns_kept_long 6 3 c.args.table.now c.set_child.new.table (s.long ∙ l.invariant.0.long))
 
-loop-less : tie.Need-loop-smaller invariant-loop decreases-loop
+loop-less : tie.Need-loop-q-smaller invariant-loop decreases-loop
 loop-less c =
-    let l = c.before.before.before.before.before.before.before.loop in
-    omega (arith, c.before.before.before.before.before.before.loop-test.true, cutting_up _ _ _ c.before.before.before.before.before.before.before.before.before.before.before.before.before.before.before.before.before.before.requires.0 c.before.before.before.before.before.before.before.before.before.before.before.before.before.before.before.before.before.before.requires.1 c.before.before.before.before.before.before.before.before.before.before.word2.ensures _ _ _ _ _ l.invariant.0 l.invariant.1 c.before.before.before.before.before.before.loop-test.true c.before.before.before.before.set-child.ensures (ap (λ (x : ℕ). x / 1024 % 2048) c.word4.ensures))
+    let l = c.loop-q in
+    omega (arith, c.loop-q-test.true, cutting_up _ _ _ c.requires.0 c.requires.1 c.word-c.ensures _ _ _ _ _ l.invariant.0 l.invariant.1 c.loop-q-test.true c.set_child.ensures (ap (λ (x : ℕ). x / 1024 % 2048) c.word-in-loop-q.ensures))
 
-loop-again : tie.Need-loop-preserved invariant-loop decreases-loop
+loop-again : tie.Need-loop-q-preserved invariant-loop decreases-loop
 loop-again c =
-    let l = c.before.before.before.before.before.before.before.loop in
-    (cutting_step _ _ _ c.before.before.before.before.before.before.before.before.before.before.before.before.before.before.before.before.before.before.requires.0 c.before.before.before.before.before.before.before.before.before.before.before.before.before.before.before.before.before.before.requires.1 c.before.before.before.before.before.before.before.before.before.before.word2.ensures _ _ _ _ _ l.invariant.0 l.invariant.1 c.before.before.before.before.before.before.loop-test.true c.before.before.before.before.set-child.ensures (ap (λ (x : ℕ). x / 1024 % 2048) c.word4.ensures), l.invariant.1)
+    let l = c.loop-q in
+    (cutting_step _ _ _ c.requires.0 c.requires.1 c.word-c.ensures _ _ _ _ _ l.invariant.0 l.invariant.1 c.loop-q-test.true c.set_child.ensures (ap (λ (x : ℕ). x / 1024 % 2048) c.word-in-loop-q.ensures), l.invariant.1)
 
-same-length-2 : tie.Need-same-length-2 invariant-loop decreases-loop
+same-length-2 : tie.Need-shape_of-table invariant-loop decreases-loop
 same-length-2 c =
-    c.before.loop.invariant.0.long
+    c.loop-q.invariant.0.long
 
-returns-2 : tie.Need-returns-2 invariant-loop decreases-loop
+returns-2 : tie.Need-returns invariant-loop decreases-loop
 returns-2 c =
-    let l = c.before.loop in
-    cutting_end _ _ _ c.before.before.before.before.before.before.before.before.before.before.before.before.requires.0 c.before.before.before.before.before.before.before.before.before.before.before.before.requires.1 c.before.before.before.before.word2.ensures _ _ (omega (arith, c.loop-test.false, l.invariant.1)) (omega (arith, c.before.before.before.before.before.before.before.before.before.rows.ensures 3, c.before.before.before.before.before.before.before.word.ensures, c.before.before.before.before.before.before.if1.false)) l.invariant.0
+    let l = c.loop-q in
+    cutting_end _ _ _ c.requires.0 c.requires.1 c.word-c.ensures _ _ (omega (arith, c.loop-q-test.false, l.invariant.1)) (omega (arith, c.rows-n.ensures 3, c.word.ensures, c.if-n-word.false)) l.invariant.0
 
 pub cut_class_spec : {M : Type 1} → statement M
 cut_class_spec =
