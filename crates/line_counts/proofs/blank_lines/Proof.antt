@@ -12,32 +12,32 @@ use Rattle.line_counts.proofs.count_blank.Reads as count-blank-reads
 use Rattle.line_counts.proofs.is_blank.Reads as is-blank-reads
 use Rattle.lists.proofs.get.Reads as get-reads
 
-returns : tie.Need-returns
+returns : tie.Need-returns-then-n-eq0
 returns c =
-    no_lines c.before.before.before.args.lines.now c.before.before.before.args.width c.before.before.before.args.order.now c.if1.true
+    no_lines c.args.lines.now c.args.width c.args.order.now c.if-n-eq0.true
 
-sub-get : tie.Need-overflow-sub-get
+sub-get : tie.Need-overflow_sub-n
 sub-get c = search rules
 
 get-requires : tie.Need-get-requires
 get-requires c κs = search rules
 
-is-blank-requires : tie.Need-is-blank-requires
+is-blank-requires : tie.Need-is_blank-requires
 is-blank-requires c κs =
-    let p = c.before.before.before.before.requires in
-    (p.0, subst (λ k. k * c.before.before.before.before.args.width + c.before.before.before.before.args.width ≤ length c.before.before.before.before.args.lines.now) (sym c.get.ensures) (p.2 (length c.before.before.before.before.args.order.now - 1) (omega (arith, c.before.if1.false))))
+    let p = c.requires in
+    (p.0, subst (λ k. k * c.args.width + c.args.width ≤ length c.args.lines.now) (sym c.get.ensures) (p.2 (length c.args.order.now - 1) (omega (arith, c.if-n-eq0.false))))
 
-count-blank-requires : tie.Need-count-blank-requires
+count-blank-requires : tie.Need-count_blank-requires
 count-blank-requires c κs =
-    let p = c.before.before.before.before.before.before.requires in (p.0, p.1, p.2)
+    let p = c.requires in (p.0, p.1, p.2)
 
-returns-2 : tie.Need-returns-2
+returns-2 : tie.Need-returns-then-is_blank
 returns-2 c =
-    c.count-blank.ensures
+    c.count_blank.ensures
 
-returns-3 : tie.Need-returns-3
+returns-3 : tie.Need-returns
 returns-3 c =
-    none_blank c.before.before.before.before.before.before.args.lines.now c.before.before.before.before.before.before.args.width c.before.before.before.before.before.before.args.order.now _ _ _ c.before.before.before.before.before.before.requires.3 refl (omega (arith, c.before.before.before.if1.false)) c.before.before.get.ensures c.before.is-blank.ensures c.if2.false
+    none_blank c.args.lines.now c.args.width c.args.order.now _ _ _ c.requires.3 refl (omega (arith, c.if-n-eq0.false)) c.get.ensures c.is_blank.ensures c.if-is_blank.false
 
 pub blank_lines_spec : {M : Type 1} → statement M
 blank_lines_spec =

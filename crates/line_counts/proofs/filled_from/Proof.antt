@@ -11,55 +11,55 @@ use Rattle.line_counts.proofs.filled_from.Reads as reads
 use Rattle.line_counts.proofs.filled_from.Lts as lts
 use Rattle.line_order.proofs.line_start.Reads as line-start-reads
 
-abbrev invariant-loop : tie.invariant-loop
+abbrev invariant-loop : tie.invariant-loop-c
 invariant-loop lines width number from at n₀ c₀ n c = (from ≤ c) × (c ≤ width) × (n + filled_rest lines width (number * width) c ≡ filled_number (cells lines (width - from) (number * width + from)))
 
-abbrev decreases-loop : tie.decreases-loop
+abbrev decreases-loop : tie.decreases-loop-c
 decreases-loop lines width number from at n₀ c₀ n c = width - c
 
-line-start-requires : tie.Need-line-start-requires invariant-loop decreases-loop
+line-start-requires : tie.Need-line_start-at-requires invariant-loop decreases-loop
 line-start-requires c κs = search rules
 
-loop-holds : tie.Need-loop-init invariant-loop decreases-loop
+loop-holds : tie.Need-loop-c-init invariant-loop decreases-loop
 loop-holds c =
     omega (arith)
 
-add-x : tie.Need-overflow-add-x invariant-loop decreases-loop
+add-x : tie.Need-overflow_add-x invariant-loop decreases-loop
 add-x c =
-    omega (arith, c.before.before.line-start.ensures.1, c.before.before.before.before.requires.0, c.loop-test.true)
+    omega (arith, c.line_start-at.ensures.1, c.requires.0, c.loop-c-test.true)
 
-mul-x : tie.Need-overflow-mul-x invariant-loop decreases-loop
+mul-x : tie.Need-offset_bounds-lines-at invariant-loop decreases-loop
 mul-x c =
-    omega (arith, c.before.before.line-start.ensures.1, c.before.before.before.before.requires.0, c.loop-test.true)
+    omega (arith, c.line_start-at.ensures.1, c.requires.0, c.loop-c-test.true)
 
-shared-slice-read-x : tie.Need-shared-slice-read-x invariant-loop decreases-loop
+shared-slice-read-x : tie.Need-bounds-lines-at invariant-loop decreases-loop
 shared-slice-read-x c =
-    omega (arith, c.before.before.before.line-start.ensures.0, c.before.before.before.before.before.requires.2, c.before.loop-test.true)
+    omega (arith, c.line_start-at.ensures.0, c.requires.2, c.loop-c-test.true)
 
-add-c : tie.Need-overflow-add-c invariant-loop decreases-loop
+add-c : tie.Need-overflow_add-c invariant-loop decreases-loop
 add-c c = search rules
 
-add-n : tie.Need-overflow-add-n invariant-loop decreases-loop
+add-n : tie.Need-overflow_add-n invariant-loop decreases-loop
 add-n c =
-    let i = c.before.before.before.loop.invariant in omega (arith, filled_few c.before.before.before.before.before.before.args.lines.now c.before.before.before.before.before.before.args.width (c.before.before.before.before.before.before.args.number * c.before.before.before.before.before.before.args.width) c.before.before.before.before.before.before.args.from)
+    let i = c.loop-c.invariant in omega (arith, filled_few c.args.lines.now c.args.width (c.args.number * c.args.width) c.args.from)
 
-loop-less : tie.Need-loop-smaller invariant-loop decreases-loop
+loop-less : tie.Need-loop-c-smaller-then-x-ne0 invariant-loop decreases-loop
 loop-less c = search rules
 
-loop-again : tie.Need-loop-preserved invariant-loop decreases-loop
+loop-again : tie.Need-loop-c-preserved-then-x-ne0 invariant-loop decreases-loop
 loop-again c =
-    let i = c.before.before.before.loop.invariant in (omega arith, omega arith, filled_add _ _ _ _ _ _ _ i.2 c.before.before.loop-test.true (ap (λ a. get_or c.before.before.before.before.before.before.args.lines.now (a + c.before.before.before.loop.c) 0) c.before.before.before.before.line-start.ensures.0) c.if1.true)
+    let i = c.loop-c.invariant in (omega arith, omega arith, filled_add _ _ _ _ _ _ _ i.2 c.loop-c-test.true (ap (λ a. get_or c.args.lines.now (a + c.loop-c.c) 0) c.line_start-at.ensures.0) c.if-x-ne0.true)
 
-loop-less-2 : tie.Need-loop-smaller-2 invariant-loop decreases-loop
+loop-less-2 : tie.Need-loop-c-smaller invariant-loop decreases-loop
 loop-less-2 c = search rules
 
-loop-again-2 : tie.Need-loop-preserved-2 invariant-loop decreases-loop
+loop-again-2 : tie.Need-loop-c-preserved invariant-loop decreases-loop
 loop-again-2 c =
-    let i = c.before.before.before.loop.invariant in (omega arith, omega arith, filled_skip _ _ _ _ _ _ _ i.2 c.before.before.loop-test.true (ap (λ a. get_or c.before.before.before.before.before.before.args.lines.now (a + c.before.before.before.loop.c) 0) c.before.before.before.before.line-start.ensures.0) c.if1.false)
+    let i = c.loop-c.invariant in (omega arith, omega arith, filled_skip _ _ _ _ _ _ _ i.2 c.loop-c-test.true (ap (λ a. get_or c.args.lines.now (a + c.loop-c.c) 0) c.line_start-at.ensures.0) c.if-x-ne0.false)
 
 returns : tie.Need-returns invariant-loop decreases-loop
 returns c =
-    filled_last _ _ _ _ _ _ c.before.loop.invariant.2 c.loop-test.false
+    filled_last _ _ _ _ _ _ c.loop-c.invariant.2 c.loop-c-test.false
 
 pub filled_from_spec : {M : Type 1} → statement M
 filled_from_spec =

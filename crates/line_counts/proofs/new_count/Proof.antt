@@ -18,17 +18,17 @@ get-requires c κs = search rules
 get-requires-2 : tie.Need-get-requires-2
 get-requires-2 c κs = search rules
 
-cast-filled-from : tie.Need-overflow-cast-filled-from
+cast-filled-from : tie.Need-overflow_cast-get
 cast-filled-from c = search rules
 
-filled-from-requires : tie.Need-filled-from-requires
+filled-from-requires : tie.Need-filled_from-requires
 filled-from-requires c κs =
-    let r = c.before.before.before.before.before.requires.0 in
-    (r.narrow, omega (arith, c.get2.ensures, shared_small r c.before.before.before.before.before.args.i c.before.before.before.before.before.requires.1), subst (λ k. k * c.before.before.before.before.before.args.width + c.before.before.before.before.before.args.width ≤ length c.before.before.before.before.before.args.lines.now) (sym c.before.get.ensures) (r.inside c.before.before.before.before.before.args.i c.before.before.before.before.before.requires.1))
+    let r = c.requires.0 in
+    (r.narrow, omega (arith, c.get-2.ensures, shared_small r c.args.i c.requires.1), subst (λ k. k * c.args.width + c.args.width ≤ length c.args.lines.now) (sym c.get.ensures) (r.inside c.args.i c.requires.1))
 
 returns : tie.Need-returns
 returns c =
-    new_number c.before.before.before.before.before.before.requires.0 c.before.before.before.before.before.before.args.i _ _ _ c.before.before.before.before.before.before.requires.1 c.before.before.get.ensures c.before.get2.ensures c.filled-from.ensures
+    new_number c.requires.0 c.args.i _ _ _ c.requires.1 c.get.ensures c.get-2.ensures c.filled_from.ensures
 
 pub new_count_spec : {M : Type 1} → statement M
 new_count_spec =
