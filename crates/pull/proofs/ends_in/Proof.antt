@@ -9,11 +9,11 @@ use Rattle.pull.proofs.ends_in.Reads as reads
 use Rattle.pull.proofs.ends_in.Lts as lts
 use Rattle.image.proofs.body_of.Reads as body-of-reads
 
-body-of-requires : tie.Need-body-of-requires
+body-of-requires : tie.Need-body_of-requires
 body-of-requires c κs = search rules
 
 returns : tie.Need-returns
-returns c = ap (λ (b : Body). eqb b.row c.before.before.before.args.row) c.before.body_of.ensures
+returns c = ap (λ (b : Body). eqb b.row c.args.row) c.body_of.ensures
 
 pub ends_in_spec : {M : Type 1} → statement M
 ends_in_spec = tie.close (tie.spec body-of-requires returns)

@@ -8,19 +8,19 @@ use Rattle.pull.specs.PullLayer.{far}
 use Rattle.pull.proofs.is_far.Statement.{statement}
 use Rattle.pull.proofs.is_far.Tie as tie
 
-returns : tie.Need-returns
+returns : tie.Need-returns-then-difference-gt1125899906842624
 unfolding far
 returns c =
-    let e : lt_z (pos 1125899906842624) c.before.args.difference ≡ true =
-    ap (λ (z : ℤ). lt_z (pos 1125899906842624) z) (sym (to_z-of_z c.before.ranges.difference)) ∙ c.if1.true in
+    let e : lt_z (pos 1125899906842624) c.args.difference ≡ true =
+    ap (λ (z : ℤ). lt_z (pos 1125899906842624) z) (sym (to_z-of_z c.ranges.difference)) ∙ c.if-difference-gt1125899906842624.true in
     simp e
 
-returns-2 : tie.Need-returns-2
+returns-2 : tie.Need-returns
 unfolding far
 returns-2 c =
-    let e : lt_z (pos 1125899906842624) c.before.args.difference ≡ false =
-    ap (λ (z : ℤ). lt_z (pos 1125899906842624) z) (sym (to_z-of_z c.before.ranges.difference)) ∙ c.if1.false in
-    simp e (ap (λ (z : ℤ). lt_z z (negsuc 1125899906842623)) (to_z-of_z c.before.ranges.difference))
+    let e : lt_z (pos 1125899906842624) c.args.difference ≡ false =
+    ap (λ (z : ℤ). lt_z (pos 1125899906842624) z) (sym (to_z-of_z c.ranges.difference)) ∙ c.if-difference-gt1125899906842624.false in
+    simp e (ap (λ (z : ℤ). lt_z z (negsuc 1125899906842623)) (to_z-of_z c.ranges.difference))
 
 pub is_far_spec : {M : Type 1} → statement M
 is_far_spec = tie.close (tie.spec returns returns-2)

@@ -60,87 +60,87 @@ accepted x left e q = (sym (ap (λ (b : Bool). cond {A = ℕ} b 15 0) e), q ∙ 
 still : (x : tie.Start) → Moved x 0 ≡ total_at (Tt x) 0
 still x = ap (λ (z : ℤ). total_at (Tt x) 0 +ℤ z) (shift_first (S x) x.args.row (D x)) ∙ +ℤ_idr (total_at (Tt x) 0)
 
-first_is : (c : tie.After-is-beyond) → c.is-beyond.result ≡ beyond (total_at (Tt c.before.before.before.before) 0)
+first_is : (c : tie.After-is_beyond) → c.is_beyond.result ≡ beyond (total_at (Tt c.before.before.before.before) 0)
 first_is c =
     let t = Tt c.before.before.before.before in
     let back : to_z w64 (of_z w64 (total_at t 0)) ≡ total_at t 0 = search rules in
-    c.is-beyond.ensures ∙ ap beyond back
+    c.is_beyond.ensures ∙ ap beyond back
 
 -- ---- the totals after the first pass
 
-abbrev Init : tie.After-move-totals → tie.Start
+abbrev Init : tie.After-move_totals-reached → tie.Start
 Init c = c.before.before.before.before.before.before.before
 
-reach_is : (c : tie.After-move-totals) → let x = Init c in c.move-totals.result ≡ moves_to (S x) (Tt x) x.args.row (D x) 0 (node_count (S x))
-reach_is c = c.move-totals.ensures.0
+reach_is : (c : tie.After-move_totals-reached) → let x = Init c in c.move_totals-reached.result ≡ moves_to (S x) (Tt x) x.args.row (D x) 0 (node_count (S x))
+reach_is c = c.move_totals-reached.ensures.0
 
-so_far : (c : tie.After-move-totals) → let x = Init c in Reaches (S x) (Tt x) x.args.row (D x) 0 (node_count (S x)) c.move-totals.result
+so_far : (c : tie.After-move_totals-reached) → let x = Init c in Reaches (S x) (Tt x) x.args.row (D x) 0 (node_count (S x)) c.move_totals-reached.result
 so_far c =
     let x = Init c in
     subst (Reaches (S x) (Tt x) x.args.row (D x) 0 (node_count (S x))) (sym (reach_is c)) (reaches (S x) (Tt x) x.args.row (D x) (node_count (S x)))
 
-good_to : (c : tie.After-move-totals) (j : ℕ) → j ≤ c.move-totals.result → Bad (Init c) j ≡ false
+good_to : (c : tie.After-move_totals-reached) (j : ℕ) → j ≤ c.move_totals-reached.result → Bad (Init c) j ≡ false
 good_to c zero h =
     let x = Init c in
-    let e = c.before.before in
-    let f : beyond (total_at (Tt x) 0) ≡ false = sym (first_is e.before) ∙ e.if1.false in
+    let e = c in
+    let f : beyond (total_at (Tt x) 0) ≡ false = sym (first_is e.before.before.before) ∙ e.if-is_beyond.false in
     ap₂ ◌||◌ f (ap beyond (still x) ∙ f)
-good_to c (suc j) h = (so_far c).well-formed (suc j) (omega arith) h
+good_to c (suc j) h = (so_far c).good (suc j) (omega arith) h
 
-room : (c : tie.After-move-totals) → c.move-totals.result < length (Tt (Init c))
+room : (c : tie.After-move_totals-reached) → c.move_totals-reached.result < length (Tt (Init c))
 room c = omega (arith, (so_far c).high, (Init c).requires)
 
 -- ---- the needs, in the order of the code
 
-shared-slice-read-n : tie.Need-shared-slice-read-n
+shared-slice-read-n : tie.Need-bounds-index-0
 shared-slice-read-n c = omega arith
 
-cast-n : tie.Need-overflow-cast-n
+cast-n : tie.Need-overflow_cast-n
 cast-n c = omega arith
 
-slice-copy-out-first : tie.Need-slice-copy-out-first
+slice-copy-out-first : tie.Need-slice_copy_out-first
 slice-copy-out-first c = omega arith
 
-is-beyond-requires : tie.Need-is-beyond-requires
+is-beyond-requires : tie.Need-is_beyond-requires
 is-beyond-requires c κs = search rules
 
-returns : tie.Need-returns
+returns : tie.Need-returns-then-is_beyond
 returns c =
     let x = c.before.before.before.before.before in
-    let e : Bad x 0 ≡ true = ap (λ (b : Bool). b || beyond (Moved x 0)) (sym (first_is c.before) ∙ c.if1.true) in
+    let e : Bad x 0 ≡ true = ap (λ (b : Bool). b || beyond (Moved x 0)) (sym (first_is c.before) ∙ c.if-is_beyond.true) in
     given x _ _ (refused x _ (bad_at_lem (S x) (Tt x) x.args.row (D x) 0 (omega arith) e) refl)
 
-move-totals-requires : tie.Need-move-totals-requires
-move-totals-requires c κs = let x = c.before.before.before.before.before.before in (x.requires.1, x.requires.2, x.requires.3)
+move-totals-requires : tie.Need-move_totals-reached-requires
+move-totals-requires c κs = let x = c in (x.requires.1, x.requires.2, x.requires.3)
 
-take-back-requires : tie.Need-take-back-requires
+take-back-requires : tie.Need-take_back-requires
 take-back-requires c κs =
     let m = c.before.before.before in
     let x = Init m in
-    omega (arith, x.pre, (so_far m).high, ap length m.move-totals.ensures.1, places_length (Moved x) (Tt x) (pos 0) (m.move-totals.result + 1) (omega (arith, room m)))
+    omega (arith, x.requires, (so_far m).high, ap length m.move_totals-reached.ensures.1, places_length (Moved x) (Tt x) (pos 0) (m.move_totals-reached.result + 1) (omega (arith, room m)))
 
-same_length : tie.Need-same-length
+same_length : tie.Need-shape_of-totals-then-reached-n
 same_length c = search rules
 
-returns-2 : tie.Need-returns-2
+returns-2 : tie.Need-returns-then-reached-n
 returns-2 c =
-    let i = c.before.before.before in
-    let m = i.before.before in
+    let i = c in
+    let m = i.before.before.before.before.before in
     let x = Init m in
-    given x _ _ (refused x _ (bad_at_lem (S x) (Tt x) x.args.row (D x) (m.move-totals.result + 1) (omega (arith, i.if2.true)) ((so_far m).bad i.if2.true))
-    (c.before.take_back.ensures ∙ taken_back (S x) (Tt x) x.args.row (D x) m.move-totals.result (room m) (good_to m) _ m.move-totals.ensures.1))
+    given x _ _ (refused x _ (bad_at_lem (S x) (Tt x) x.args.row (D x) (m.move_totals-reached.result + 1) (omega (arith, i.if-reached-n.true)) ((so_far m).bad i.if-reached-n.true))
+    (c.take_back.ensures ∙ taken_back (S x) (Tt x) x.args.row (D x) m.move_totals-reached.result (room m) (good_to m) _ m.move_totals-reached.ensures.1))
 
-same-length-2 : tie.Need-same-length-2
+same-length-2 : tie.Need-shape_of-totals
 same-length-2 c = search rules
 
-returns-3 : tie.Need-returns-3
+returns-3 : tie.Need-returns
 unfolding moved
 returns-3 c =
     let m = c.before.before in
     let x = Init m in
-    let n : m.move-totals.result ≡ node_count (S x) = omega (arith, (so_far m).high, c.if2.false) in
+    let n : m.move_totals-reached.result ≡ node_count (S x) = omega (arith, (so_far m).high, c.if-reached-n.false) in
     given x _ _ (accepted x _ (none_bad (S x) (Tt x) x.args.row (D x) (λ k h. good_to m k (omega arith)))
-    (m.move-totals.ensures.1 ∙ ap (λ (r : ℕ). front (map (Moved x) (numbers 0 (r + 1))) (Tt x)) n))
+    (m.move_totals-reached.ensures.1 ∙ ap (λ (r : ℕ). front (map (Moved x) (numbers 0 (r + 1))) (Tt x)) n))
 
 pub move_all_spec : {M : Type 1} → statement M
 move_all_spec =
