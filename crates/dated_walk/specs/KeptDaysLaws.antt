@@ -1,6 +1,6 @@
 -- The days that the siblings of open rows were met with, as the days slice keeps them until those rows are closed. Assumes nothing.
 use Rattle.std.specs.Prelude.{◌≡◌, refl, ◌≢◌, List, [], ◌∷◌, ℕ, zero, suc, ◌+◌, ◌*◌, ◌-◌, ◌≤◌, ◌<◌, length, get_or, set}
-use Rattle.std.proofs.Common.{sym, ap, ap₂, ◌∙◌, arith, length-set, get_or-set_same, get_or-set_other}
+use Rattle.std.proofs.Common.{sym, subst, ap, ap₂, ◌∙◌, arith, length-set, get_or-set_same, get_or-set_other}
 use Rattle.rows.specs.declared.Days.{Days}
 use Rattle.walk.specs.OpenRowsLaws.{Open}
 use Rattle.dated_walk.specs.DatedWalkLayer.{word_days, KeptFrom}
@@ -33,7 +33,7 @@ days_same ds ds' m (o ∷ os) same h = (
 pub days_open : (ds ds₁ : List ℕ) (m at up : ℕ) (s : Days) (os : List (Open Days)) → 2 * m + 2 ≤ length ds → ds₁ ≡ set (set ds (2 * m) s.first) (2 * m + 1) s.last
     → KeptDays ds m os → KeptDays ds₁ (m + 1) (record { at = at; n = m; up = up; carried = s } ∷ os)
 unfolding KeptDays
-days_open ds ds₁ m at up s os room same h = rw same (
+days_open ds ds₁ m at up s os room same h = subst (λ (z : List ℕ). KeptDays z (m + 1) (record { at = at; n = m; up = up; carried = s } ∷ os)) (sym same) (
   omega arith,
   get_or-set_other (set ds (2 * m) s.first) (2 * m + 1) (2 * m) s.last 0 (omega arith) ∙ get_or-set_same ds (2 * m) s.first 0 (omega arith),
   get_or-set_same (set ds (2 * m) s.first) (2 * m + 1) s.last 0 (omega (arith, length-set ds (2 * m) s.first)),

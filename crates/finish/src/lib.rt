@@ -82,7 +82,7 @@ pub fn finish(
 ) -> Built
     requires any_nodes_written { AnyNodesWritten choice.orphan table.old minutes.now index.old progress }
     requires reached_len { (length reached.old ≡ length (row_column table.old)) × (progress.count < length totals.old) }
-    ensures* { λ r. ⌜ ((R : List Row) (bs : List Body) (before : List ℕ) → NodesWritten R choice.orphan bs before index.old progress → (1 < choice.orphan → left_over R bs ≡ 0) → Classes R (row_column table.old) (class_column table.old) → minutes.now ≡ map (λ (r : Row). r.minutes) R → Finished R choice bs before index.new totals.old totals.new r) ⌝ }
+    ensures { (R : List Row) (bs : List Body) (before : List ℕ) → NodesWritten R choice.orphan bs before index.old progress → (1 < choice.orphan → left_over R bs ≡ 0) → Classes R (row_column table.old) (class_column table.old) → minutes.now ≡ map (λ (r : Row). r.minutes) R → Finished R choice bs before index.new totals.old totals.new result }
 {
     let n = progress.count as usize;
     image::write_contents(index, progress.count, progress.check);
