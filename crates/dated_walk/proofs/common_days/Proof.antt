@@ -27,7 +27,7 @@ earlier-requires c κs = search rules
 returns : tie.Need-returns
 returns c =
     let D : ℕ → ℕ → Days = λ f l. record { first = f; last = l } in
-    ap₂ D c.before.later.ensures c.earlier.ensures
+    ap₂ D c.later.ensures c.earlier.ensures
 
 pub common_days_spec : {M : Type 1} → statement M
 common_days_spec = tie.close (tie.spec later-requires earlier-requires returns)

@@ -23,17 +23,17 @@ row-requires : tie.Need-row-requires
 row-requires c κs = search rules
 
 -- src/lib.rt:60:23
-days-at-requires : tie.Need-days-at-requires
+days-at-requires : tie.Need-days_at-requires
 days-at-requires c κs = search rules
 
 -- src/lib.rt:60:5
-common-days-requires : tie.Need-common-days-requires
+common-days-requires : tie.Need-common_days-requires
 common-days-requires c κs = search rules
 
 -- src/lib.rt:57:1
 returns : tie.Need-returns
 returns c =
-    c.common-days.ensures ∙ ap (common c.before.before.before.before.before.args.left) (c.before.days-at.ensures ∙ ap (word_days c.before.before.before.before.before.args.spans.now) c.before.before.row.ensures)
+    c.common_days.ensures ∙ ap (common c.args.left) (c.days_at.ensures ∙ ap (word_days c.args.spans.now) c.row.ensures)
 
 pub cut_at_spec : {M : Type 1} → statement M
 cut_at_spec = tie.close (tie.spec row-requires days-at-requires common-days-requires returns)

@@ -10,16 +10,16 @@ use Rattle.dated_walk.proofs.days_at.Lts as lts
 use Rattle.lists.proofs.get.Reads as get-reads
 
 -- src/lib.rt:23:9
-returns : tie.Need-returns
+returns : tie.Need-returns-then-x-eq0
 returns c =
-    sym (days_zero c.before.before.args.words.now c.before.before.args.x c.if1.true)
+    sym (days_zero c.args.words.now c.args.x c.if-x-eq0.true)
 
 -- src/lib.rt:25:19
-sub_at : tie.Need-overflow-sub-at
+sub_at : tie.Need-overflow_sub-at
 sub_at c = search rules
 
 -- src/lib.rt:25:14
-mul_at : tie.Need-overflow-mul-at
+mul_at : tie.Need-overflow_mul-at
 mul_at c = search rules
 
 -- src/lib.rt:27:16
@@ -27,7 +27,7 @@ get-requires : tie.Need-get-requires
 get-requires c κs = search rules
 
 -- src/lib.rt:28:33
-add-get : tie.Need-overflow-add-get
+add-get : tie.Need-overflow_add-at
 add-get c = search rules
 
 -- src/lib.rt:28:15
@@ -35,10 +35,10 @@ get-requires-2 : tie.Need-get-requires-2
 get-requires-2 c κs = search rules
 
 -- src/lib.rt:19:1
-returns-2 : tie.Need-returns-2
+returns-2 : tie.Need-returns
 returns-2 c =
     let D : ℕ → ℕ → Days = λ f l. record { first = f; last = l } in
-    ap₂ D c.before.get.ensures c.get2.ensures ∙ sym (days_at_lem c.before.before.before.before.args.words.now c.before.before.before.before.args.x c.before.before.if1.false)
+    ap₂ D c.get.ensures c.get-2.ensures ∙ sym (days_at_lem c.args.words.now c.args.x c.if-x-eq0.false)
 
 pub days_at_spec : {M : Type 1} → statement M
 days_at_spec =

@@ -14,32 +14,32 @@ use Rattle.dated_walk.proofs.keep_days.Reads as reads
 use Rattle.dated_walk.proofs.keep_days.Lts as lts
 
 -- src/lib.rt:74:14
-mul_at : tie.Need-overflow-mul-at
+mul_at : tie.Need-overflow_mul-at
 mul_at c = search rules
 
 -- src/lib.rt:75:5
-mul-days : tie.Need-overflow-mul-days
+mul-days : tie.Need-offset_bounds-days-at
 mul-days c = search rules
 
 -- src/lib.rt:75:5
-slice-write-days : tie.Need-slice-write-days
+slice-write-days : tie.Need-bounds-days-at
 slice-write-days c = search rules
 
 -- src/lib.rt:76:10
-add-days : tie.Need-overflow-add-days
+add-days : tie.Need-overflow_add-days
 add-days c = search rules
 
 -- src/lib.rt:76:5
-mul-days-2 : tie.Need-overflow-mul-days-2
+mul-days-2 : tie.Need-offset_bounds-days-at-2
 mul-days-2 c = search rules
 
 -- src/lib.rt:76:5
-slice-write-days-2 : tie.Need-slice-write-days-2
+slice-write-days-2 : tie.Need-bounds-days-at-2
 slice-write-days-2 c =
     simp length-set (omega (arith, c.requires))
 
 -- src/lib.rt:70:1
-same_length : tie.Need-same-length
+same_length : tie.Need-shape_of-days
 same_length c = search rules
 
 -- src/lib.rt:70:1
