@@ -13,32 +13,32 @@ use lib.ListN.{length}
 use Rattle.finish.proofs.count_left.Statement.{statement}
 use Rattle.finish.proofs.count_left.Tie as tie
 
-returns : tie.Need-returns
+returns : tie.Need-returns-then-orphan-gt1
 returns c =
-    left_unasked _ _ _ c.if1.true
+    left_unasked _ _ _ c.if-orphan-gt1.true
 
 clear-requires : tie.Need-clear-requires
 clear-requires c κs = search rules
 
-mark-rows-requires : tie.Need-mark-rows-requires
+mark-rows-requires : tie.Need-mark_rows-requires
 mark-rows-requires c κs =
-    let p = c.before.before.before.before.before.before.before.before.requires in
-    (omega arith, p.0, subst (Named c.before.before.before.before.before.before.before.before.args.index.now 0 c.before.before.before.before.before.before.before.before.args.n) (sym (zeros_length c.before.before.before.clear.new.0 (length c.before.before.before.before.before.before.before.before.args.reached.now) c.before.before.before.clear.ensures)) (p.1 (omega (arith, c.before.before.before.before.before.if1.false))))
+    let p = c.requires in
+    (omega arith, p.0, subst (Named c.args.index.now 0 c.args.n) (sym (zeros_length c.clear.new.s (length c.args.reached.now) c.clear.ensures)) (p.1 (omega (arith, c.if-orphan-gt1.false))))
 
-count-clear-requires : tie.Need-count-clear-requires
+count-clear-requires : tie.Need-count_clear-requires
 count-clear-requires c κs = search rules
 
-cast-result : tie.Need-overflow-cast-result
+cast-result : tie.Need-overflow_cast-result
 cast-result c =
-    let z = zeros_whole c.before.before.before.before.before.before.before.before.clear.new.0 (length c.before.before.before.before.before.before.before.before.before.before.before.before.before.args.reached.now) c.before.before.before.before.before.before.before.before.clear.ensures in
-    omega (arith, c.count-clear.ensures, filter_short (eqb 0) c.before.before.before.before.mark-rows.new.1.1.1.0, ap length c.before.before.before.before.mark-rows.ensures, marked_length (rows_from c.before.before.before.before.before.before.before.before.before.before.before.before.before.args.index.now 0 c.before.before.before.before.before.before.before.before.before.before.before.before.before.args.n) c.before.before.before.before.before.before.before.before.clear.new.0, zeros_length c.before.before.before.before.before.before.before.before.clear.new.0 (length c.before.before.before.before.before.before.before.before.before.before.before.before.before.args.reached.now) c.before.before.before.before.before.before.before.before.clear.ensures, c.before.before.before.before.before.before.before.before.before.before.before.before.before.requires.2)
+    let z = zeros_whole c.clear.new.s (length c.args.reached.now) c.clear.ensures in
+    omega (arith, c.count_clear.ensures, filter_short (eqb 0) c.mark_rows.new.reached, ap length c.mark_rows.ensures, marked_length (rows_from c.args.index.now 0 c.args.n) c.clear.new.s, zeros_length c.clear.new.s (length c.args.reached.now) c.clear.ensures, c.requires.2)
 
-same_length : tie.Need-same-length
+same_length : tie.Need-shape_of-reached
 same_length c = search rules
 
-returns-2 : tie.Need-returns-2
+returns-2 : tie.Need-returns
 returns-2 c =
-    left_counted _ _ _ _ _ c.before.before.before.before.before.before.before.before.before.before.if1.false (c.before.before.before.before.mark-rows.ensures ∙ marked_zeros (rows_from c.before.before.before.before.before.before.before.before.before.before.before.before.before.args.index.now 0 c.before.before.before.before.before.before.before.before.before.before.before.before.before.args.n) _ _ c.before.before.before.before.before.before.before.before.clear.ensures ∙ ap (λ (l : List ℕ). reached_flags l (length c.before.before.before.before.before.before.before.before.before.before.before.before.before.args.reached.now)) (rows_from_first c.before.before.before.before.before.before.before.before.before.before.before.before.before.args.index.now c.before.before.before.before.before.before.before.before.before.before.before.before.before.args.n)) c.count-clear.ensures
+    left_counted _ _ _ _ _ c.if-orphan-gt1.false (c.mark_rows.ensures ∙ marked_zeros (rows_from c.args.index.now 0 c.args.n) _ _ c.clear.ensures ∙ ap (λ (l : List ℕ). reached_flags l (length c.args.reached.now)) (rows_from_first c.args.index.now c.args.n)) c.count_clear.ensures
 
 pub count_left_spec : {M : Type 1} → statement M
 count_left_spec =
