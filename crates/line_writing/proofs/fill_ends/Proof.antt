@@ -10,58 +10,58 @@ use Rattle.line_writing.proofs.fill_ends.Lts as lts
 use Rattle.line_writing.proofs.next_line.Reads as next-line-reads
 use Rattle.lists.proofs.get.Reads as get-reads
 
-abbrev invariant-loop : tie.invariant-loop
+abbrev invariant-loop : tie.invariant-loop-c
 invariant-loop shared firsts i to ends₀ from c₀ j₀ ends c j = (c ≤ 8) × Ending shared firsts i to c j ends
 
-abbrev decreases-loop : tie.decreases-loop
+abbrev decreases-loop : tie.decreases-loop-c
 decreases-loop shared firsts i to ends₀ from c₀ j₀ ends c j = c
 
-get-requires : tie.Need-get-requires invariant-loop decreases-loop
+get-requires : tie.Need-get-from-requires invariant-loop decreases-loop
 get-requires c κs = search rules
 
-cast-from : tie.Need-overflow-cast-from invariant-loop decreases-loop
+cast-from : tie.Need-overflow_cast-from invariant-loop decreases-loop
 cast-from c = search rules
 
-add-j : tie.Need-overflow-add-j invariant-loop decreases-loop
+add-j : tie.Need-overflow_add-j invariant-loop decreases-loop
 add-j c =
-    omega (arith, c.before.before.before.before.requires.0)
+    omega (arith, c.requires.0)
 
-loop-holds : tie.Need-loop-init invariant-loop decreases-loop
+loop-holds : tie.Need-loop-c-init invariant-loop decreases-loop
 loop-holds c =
-    (c.before.before.before.before.requires.1, ending_start _ _ _ _ _ c.before.before.before.before.requires.2 c.before.before.before.before.requires.0)
+    (c.requires.1, ending_start _ _ _ _ _ c.requires.2 c.requires.0)
 
-sub-c : tie.Need-overflow-sub-c invariant-loop decreases-loop
+sub-c : tie.Need-overflow_sub-c invariant-loop decreases-loop
 sub-c c = search rules
 
-next-line-requires : tie.Need-next-line-requires invariant-loop decreases-loop
+next-line-requires : tie.Need-next_line-j-requires invariant-loop decreases-loop
 next-line-requires c κs =
-    c.before.loop.invariant.1.high
+    c.loop-c.invariant.1.high
 
-get-requires-2 : tie.Need-get-requires-2 invariant-loop decreases-loop
+get-requires-2 : tie.Need-get-requires invariant-loop decreases-loop
 get-requires-2 c κs = search rules
 
-mul-ends : tie.Need-overflow-mul-ends invariant-loop decreases-loop
+mul-ends : tie.Need-offset_bounds-ends-c invariant-loop decreases-loop
 mul-ends c = search rules
 
-slice-write-ends : tie.Need-slice-write-ends invariant-loop decreases-loop
+slice-write-ends : tie.Need-bounds-ends-c invariant-loop decreases-loop
 slice-write-ends c =
-    omega (arith, c.before.before.before.loop.invariant.0, c.before.before.before.loop.invariant.1.long, c.before.before.loop-test.true)
+    omega (arith, c.loop-c.invariant.0, c.loop-c.invariant.1.long, c.loop-c-test.true)
 
-loop-less : tie.Need-loop-smaller invariant-loop decreases-loop
+loop-less : tie.Need-loop-c-smaller invariant-loop decreases-loop
 loop-less c = search rules
 
-loop-again : tie.Need-loop-preserved invariant-loop decreases-loop
+loop-again : tie.Need-loop-c-preserved invariant-loop decreases-loop
 loop-again c =
-    let p = c.before.before.loop-test.true in
-    (omega (arith, c.before.before.before.loop.invariant.0), ending_step _ _ _ _ _ _ _ _ _ (omega (arith, p)) c.before.before.before.loop.invariant.0 c.before.next-line.ensures c.get2.ensures c.before.before.before.loop.invariant.1)
+    let p = c.loop-c-test.true in
+    (omega (arith, c.loop-c.invariant.0), ending_step _ _ _ _ _ _ _ _ _ (omega (arith, p)) c.loop-c.invariant.0 c.next_line-j.ensures c.get.ensures c.loop-c.invariant.1)
 
-same_length : tie.Need-same-length invariant-loop decreases-loop
+same_length : tie.Need-shape_of-ends invariant-loop decreases-loop
 same_length c =
-    c.before.loop.invariant.1.long ∙ sym c.before.before.before.before.before.before.requires.2
+    c.loop-c.invariant.1.long ∙ sym c.requires.2
 
 returns : tie.Need-returns invariant-loop decreases-loop
 returns c =
-    ending_end _ _ _ _ _ _ _ (omega (arith, c.loop-test.false, c.before.before.get.ensures)) c.before.loop.invariant.1
+    ending_end _ _ _ _ _ _ _ (omega (arith, c.loop-c-test.false, c.get-from.ensures)) c.loop-c.invariant.1
 
 pub fill_ends_spec : {M : Type 1} → statement M
 fill_ends_spec =

@@ -8,39 +8,39 @@ use Rattle.line_writing.proofs.next_line.Reads as reads
 use Rattle.line_writing.proofs.next_line.Lts as lts
 use Rattle.lists.proofs.get.Reads as get-reads
 
-abbrev invariant-loop : tie.invariant-loop
+abbrev invariant-loop : tie.invariant-loop-j
 invariant-loop shared from c j₀ j = Passing shared c from j
 
-abbrev decreases-loop : tie.decreases-loop
+abbrev decreases-loop : tie.decreases-loop-j
 decreases-loop shared from c j₀ j = length shared - j
 
-loop-holds : tie.Need-loop-init invariant-loop decreases-loop
+loop-holds : tie.Need-loop-j-init invariant-loop decreases-loop
 loop-holds c =
-    passing_start _ _ _ c.before.requires
+    passing_start _ _ _ c.requires
 
 get-requires : tie.Need-get-requires invariant-loop decreases-loop
 get-requires c κs = search rules
 
-cast-if1 : tie.Need-overflow-cast-if1 invariant-loop decreases-loop
+cast-if1 : tie.Need-overflow_cast-get invariant-loop decreases-loop
 cast-if1 c = search rules
 
-returns : tie.Need-returns invariant-loop decreases-loop
+returns : tie.Need-returns-then-get-c invariant-loop decreases-loop
 returns c =
-    passing_stop _ _ _ _ _ c.before.before.loop-test.true c.before.get.ensures c.if1.true c.before.before.before.loop.invariant
+    passing_stop _ _ _ _ _ c.loop-j-test.true c.get.ensures c.if-get-c.true c.loop-j.invariant
 
-add-j : tie.Need-overflow-add-j invariant-loop decreases-loop
+add-j : tie.Need-overflow_add-j invariant-loop decreases-loop
 add-j c = search rules
 
-loop-less : tie.Need-loop-smaller invariant-loop decreases-loop
+loop-less : tie.Need-loop-j-smaller invariant-loop decreases-loop
 loop-less c = search rules
 
-loop-again : tie.Need-loop-preserved invariant-loop decreases-loop
+loop-again : tie.Need-loop-j-preserved invariant-loop decreases-loop
 loop-again c =
-    passing_more _ _ _ _ _ c.before.before.loop-test.true c.before.get.ensures c.if1.false c.before.before.before.loop.invariant
+    passing_more _ _ _ _ _ c.loop-j-test.true c.get.ensures c.if-get-c.false c.loop-j.invariant
 
-returns-2 : tie.Need-returns-2 invariant-loop decreases-loop
+returns-2 : tie.Need-returns invariant-loop decreases-loop
 returns-2 c =
-    passing_end _ _ _ _ c.loop-test.false c.before.loop.invariant
+    passing_end _ _ _ _ c.loop-j-test.false c.loop-j.invariant
 
 pub next_line_spec : {M : Type 1} → statement M
 next_line_spec =

@@ -19,130 +19,130 @@ use Rattle.line_writing.proofs.root_above.Reads as root-above-reads
 use Rattle.line_writing.proofs.root_of.Reads as root-of-reads
 use Rattle.line_order.proofs.line_start.Reads as line-start-reads
 
-abbrev invariant-loop : tie.invariant-loop
+abbrev invariant-loop : tie.invariant-loop-c
 invariant-loop lines width line ends parents₀ index₀ at c₀ parent₀ root₀ n₀ parents index c parent root n = (line.shared ≤ c) × (c ≤ width) × (Writing (sorted_lines lines width) line.place c n parent root parents) × (length index ≡ length index₀)
     × ((ix : List ℕ) → Words (levelled_bodies (sorted_lines lines width)) ix n₀ index₀ → Words (levelled_bodies (sorted_lines lines width)) ix n index)
 
-abbrev decreases-loop : tie.decreases-loop
+abbrev decreases-loop : tie.decreases-loop-c
 decreases-loop lines width line ends parents₀ index₀ at c₀ parent₀ root₀ n₀ parents index c parent root n = width - c
 
-line-start-requires : tie.Need-line-start-requires invariant-loop decreases-loop
+line-start-requires : tie.Need-line_start-at-requires invariant-loop decreases-loop
 line-start-requires c κs = search rules
 
-mul-parent : tie.Need-overflow-mul-parent invariant-loop decreases-loop
+mul-parent : tie.Need-offset_bounds-parents-c invariant-loop decreases-loop
 mul-parent c = search rules
 
-slice-read-parent : tie.Need-slice-read-parent invariant-loop decreases-loop
+slice-read-parent : tie.Need-bounds-parents-c invariant-loop decreases-loop
 slice-read-parent c =
-    let p = c.before.before.before.before.before.before.requires in omega (arith, p.0.0, p.0.2, p.1.1.1)
+    let p = c.requires in omega (arith, p.0.0, p.0.2, p.1.1.1)
 
-root-above-requires : tie.Need-root-above-requires invariant-loop decreases-loop
+root-above-requires : tie.Need-root_above-root-requires invariant-loop decreases-loop
 root-above-requires c κs = search rules
 
-loop-holds : tie.Need-loop-init invariant-loop decreases-loop
+loop-holds : tie.Need-loop-c-init invariant-loop decreases-loop
 loop-holds c =
-    let p = c.before.before.before.before.before.before.before.requires in
-    (omega arith, omega (arith, p.0.2), enter _ _ p.0.0 _ p.0.1 _ _ _ p.0.2 p.0.3 _ _ p.1.1.1 refl c.root-above.ensures, refl, (λ ix h. h))
+    let p = c.requires in
+    (omega arith, omega (arith, p.0.2), enter _ _ p.0.0 _ p.0.1 _ _ _ p.0.2 p.0.3 _ _ p.1.1.1 refl c.root_above-root.ensures, refl, (λ ix h. h))
 
-mul-parents : tie.Need-overflow-mul-parents invariant-loop decreases-loop
+mul-parents : tie.Need-offset_bounds-parents-c-in-loop-c invariant-loop decreases-loop
 mul-parents c = search rules
 
-slice-write-parents : tie.Need-slice-write-parents invariant-loop decreases-loop
+slice-write-parents : tie.Need-bounds-parents-c-in-loop-c invariant-loop decreases-loop
 slice-write-parents c =
-    let p = c.before.before.before.before.before.before.before.before.before.requires in omega (arith, p.0.0, c.loop-test.true, c.before.loop.invariant.2.long)
+    let p = c.requires in omega (arith, p.0.0, c.loop-c-test.true, c.loop-c.invariant.2.long)
 
-add-cell : tie.Need-overflow-add-cell invariant-loop decreases-loop
+add-cell : tie.Need-overflow_add-cell invariant-loop decreases-loop
 add-cell c =
-    omega (arith, c.before.before.before.before.line-start.ensures.1, c.before.before.before.before.before.before.before.before.before.requires.0.0, c.loop-test.true)
+    omega (arith, c.line_start-at.ensures.1, c.requires.0.0, c.loop-c-test.true)
 
-mul-cell : tie.Need-overflow-mul-cell invariant-loop decreases-loop
+mul-cell : tie.Need-offset_bounds-lines-at invariant-loop decreases-loop
 mul-cell c =
-    omega (arith, c.before.before.before.before.line-start.ensures.1, c.before.before.before.before.before.before.before.before.before.requires.0.0, c.loop-test.true)
+    omega (arith, c.line_start-at.ensures.1, c.requires.0.0, c.loop-c-test.true)
 
-shared-slice-read-cell : tie.Need-shared-slice-read-cell invariant-loop decreases-loop
+shared-slice-read-cell : tie.Need-bounds-lines-at invariant-loop decreases-loop
 shared-slice-read-cell c =
-    omega (arith, c.before.before.before.before.before.line-start.ensures.0, c.before.before.before.before.before.before.before.before.before.before.requires.0.1.inside, c.before.loop-test.true)
+    omega (arith, c.line_start-at.ensures.0, c.requires.0.1.inside, c.loop-c-test.true)
 
-end-of-requires : tie.Need-end-of-requires invariant-loop decreases-loop
+end-of-requires : tie.Need-end_of-end-requires invariant-loop decreases-loop
 end-of-requires c κs =
-    let p = c.before.before.before.before.before.before.before.before.before.before.requires in omega (arith, p.0.0, c.before.loop-test.true, p.1.1.0)
+    let p = c.requires in omega (arith, p.0.0, c.loop-c-test.true, p.1.1.0)
 
-add-c : tie.Need-overflow-add-c invariant-loop decreases-loop
+add-c : tie.Need-overflow_add-c invariant-loop decreases-loop
 add-c c = search rules
 
-add-rank : tie.Need-overflow-add-rank invariant-loop decreases-loop
+add-rank : tie.Need-overflow_add-rank invariant-loop decreases-loop
 add-rank c =
-    let i = c.before.before.before.before.loop.invariant in
-    let p = c.before.before.before.before.before.before.before.before.before.before.before.before.requires in
-    omega (arith, one_more _ _ p.0.0 _ p.0.1 _ _ _ _ _ i.2 c.before.before.before.loop-test.true _ (ap (λ a. get_or c.before.before.before.before.before.before.before.before.before.before.before.before.args.lines.now (a + c.before.before.before.before.loop.c) 0) c.before.before.before.before.before.before.before.line-start.ensures.0) c.if1.true, p.1.1.2)
+    let i = c.loop-c.invariant in
+    let p = c.requires in
+    omega (arith, one_more _ _ p.0.0 _ p.0.1 _ _ _ _ _ i.2 c.loop-c-test.true _ (ap (λ a. get_or c.args.lines.now (a + c.loop-c.c) 0) c.line_start-at.ensures.0) c.if-cell-ne0.true, p.1.1.2)
 
-root-of-requires : tie.Need-root-of-requires invariant-loop decreases-loop
+root-of-requires : tie.Need-root_of-root-requires invariant-loop decreases-loop
 root-of-requires c κs = search rules
 
-cast-t26 : tie.Need-overflow-cast-t26 invariant-loop decreases-loop
+cast-t26 : tie.Need-overflow_cast-body invariant-loop decreases-loop
 cast-t26 c =
-    let p = c.before.before.before.before.before.before.before.before.before.before.before.before.before.before.requires in omega (arith, p.0.1.few)
+    let p = c.requires in omega (arith, p.0.1.few)
 
-add-t27 : tie.Need-overflow-add-t27 invariant-loop decreases-loop
+add-t27 : tie.Need-overflow_add-body invariant-loop decreases-loop
 add-t27 c =
-    let p = c.before.before.before.before.before.before.before.before.before.before.before.before.before.before.requires in omega (arith, p.0.1.few)
+    let p = c.requires in omega (arith, p.0.1.few)
 
-sub-t28 : tie.Need-overflow-sub-t28 invariant-loop decreases-loop
+sub-t28 : tie.Need-overflow_sub-body invariant-loop decreases-loop
 sub-t28 c =
-    let i = c.before.before.before.before.before.before.loop.invariant in
-    let p = c.before.before.before.before.before.before.before.before.before.before.before.before.before.before.requires in
-    omega (arith, c.before.before.before.end_of_lem.ensures, size_is _ _ p.0.0 _ p.0.1 _ _ _ _ _ i.2 c.before.before.before.before.before.loop-test.true _ (ap (λ a. get_or c.before.before.before.before.before.before.before.before.before.before.before.before.before.before.args.lines.now (a + c.before.before.before.before.before.before.loop.c) 0) c.before.before.before.before.before.before.before.before.before.line-start.ensures.0) c.before.before.if1.true _ (p.1.0 c.before.before.before.before.before.before.loop.c i.0 c.before.before.before.before.before.loop-test.true))
+    let i = c.loop-c.invariant in
+    let p = c.requires in
+    omega (arith, c.end_of-end.ensures, size_is _ _ p.0.0 _ p.0.1 _ _ _ _ _ i.2 c.loop-c-test.true _ (ap (λ a. get_or c.args.lines.now (a + c.loop-c.c) 0) c.line_start-at.ensures.0) c.if-cell-ne0.true _ (p.1.0 c.loop-c.c i.0 c.loop-c-test.true))
 
-cast-t29 : tie.Need-overflow-cast-t29 invariant-loop decreases-loop
+cast-t29 : tie.Need-overflow_cast-body-then-cell-ne0 invariant-loop decreases-loop
 cast-t29 c = search rules
 
-put-body-requires : tie.Need-put-body-requires invariant-loop decreases-loop
+put-body-requires : tie.Need-put_body-requires invariant-loop decreases-loop
 put-body-requires c κs =
-    let i = c.before.before.before.before.before.before.before.loop.invariant in
-    let p = c.before.before.before.before.before.before.before.before.before.before.before.before.before.before.before.requires in
-    omega (arith, one_more _ _ p.0.0 _ p.0.1 _ _ _ _ _ i.2 c.before.before.before.before.before.before.loop-test.true _ (ap (λ a. get_or c.before.before.before.before.before.before.before.before.before.before.before.before.before.before.before.args.lines.now (a + c.before.before.before.before.before.before.before.loop.c) 0) c.before.before.before.before.before.before.before.before.before.before.line-start.ensures.0) c.before.before.before.if1.true, p.1.1.3, i.3)
+    let i = c.loop-c.invariant in
+    let p = c.requires in
+    omega (arith, one_more _ _ p.0.0 _ p.0.1 _ _ _ _ _ i.2 c.loop-c-test.true _ (ap (λ a. get_or c.args.lines.now (a + c.loop-c.c) 0) c.line_start-at.ensures.0) c.if-cell-ne0.true, p.1.1.3, i.3)
 
-loop-less : tie.Need-loop-smaller invariant-loop decreases-loop
+loop-less : tie.Need-loop-c-smaller-then-cell-ne0 invariant-loop decreases-loop
 loop-less c = search rules
 
-loop-again : tie.Need-loop-preserved invariant-loop decreases-loop
+loop-again : tie.Need-loop-c-preserved-then-cell-ne0 invariant-loop decreases-loop
 loop-again c =
-    let i = c.before.before.before.before.before.before.before.before.before.before.loop.invariant in
-    let p = c.before.before.before.before.before.before.before.before.before.before.before.before.before.before.before.before.before.before.requires in
-    let t = c.before.before.before.before.before.before.before.before.before.loop-test.true in
-    let e = ap (λ a. get_or c.before.before.before.before.before.before.before.before.before.before.before.before.before.before.before.before.before.before.args.lines.now (a + c.before.before.before.before.before.before.before.before.before.before.loop.c) 0) c.before.before.before.before.before.before.before.before.before.before.before.before.before.line-start.ensures.0 in
-    let ends = subst (EndsAt (sorted_lines c.before.before.before.before.before.before.before.before.before.before.before.before.before.before.before.before.before.before.args.lines.now c.before.before.before.before.before.before.before.before.before.before.before.before.before.before.before.before.before.before.args.width) c.before.before.before.before.before.before.before.before.before.before.before.before.before.before.before.before.before.before.args.line.place c.before.before.before.before.before.before.before.before.before.before.loop.c) (sym c.before.before.before.before.before.before.before.end_of_lem.ensures) (p.1.0 c.before.before.before.before.before.before.before.before.before.before.loop.c i.0 t) in (
+    let i = c.loop-c.invariant in
+    let p = c.requires in
+    let t = c.loop-c-test.true in
+    let e = ap (λ a. get_or c.args.lines.now (a + c.loop-c.c) 0) c.line_start-at.ensures.0 in
+    let ends = subst (EndsAt (sorted_lines c.args.lines.now c.args.width) c.args.line.place c.loop-c.c) (sym c.end_of-end.ensures) (p.1.0 c.loop-c.c i.0 t) in (
       omega (arith, i.0),
       omega (arith, t),
-      writing_yes _ _ p.0.0 _ p.0.1 _ _ _ _ _ i.2 t _ e c.before.before.before.before.before.before.if1.true _ c.before.before.before.before.before.root-of.ensures,
-      put_length _ _ _ _ _ _ c.before.before.put-body.ensures ∙ i.3,
-      (λ ix h. words_yes _ _ p.0.0 _ p.0.1 _ _ _ _ _ i.2 t _ e c.before.before.before.before.before.before.if1.true _ _ _ ends refl c.before.before.before.before.before.root-of.ensures _ _ _ _ _ refl c.before.before.put-body.ensures ix (i.4 ix h)),
+      writing_yes _ _ p.0.0 _ p.0.1 _ _ _ _ _ i.2 t _ e c.if-cell-ne0.true _ c.root_of-root.ensures,
+      put_length _ _ _ _ _ _ c.put_body.ensures ∙ i.3,
+      (λ ix h. words_yes _ _ p.0.0 _ p.0.1 _ _ _ _ _ i.2 t _ e c.if-cell-ne0.true _ _ _ ends refl c.root_of-root.ensures _ _ _ _ _ refl c.put_body.ensures ix (i.4 ix h)),
     )
 
-loop-less-2 : tie.Need-loop-smaller-2 invariant-loop decreases-loop
+loop-less-2 : tie.Need-loop-c-smaller invariant-loop decreases-loop
 loop-less-2 c = search rules
 
-loop-again-2 : tie.Need-loop-preserved-2 invariant-loop decreases-loop
+loop-again-2 : tie.Need-loop-c-preserved invariant-loop decreases-loop
 loop-again-2 c =
-    let i = c.before.before.before.before.loop.invariant in
-    let p = c.before.before.before.before.before.before.before.before.before.before.before.before.requires in
-    let t = c.before.before.before.loop-test.true in
-    let e = ap (λ a. get_or c.before.before.before.before.before.before.before.before.before.before.before.before.args.lines.now (a + c.before.before.before.before.loop.c) 0) c.before.before.before.before.before.before.before.line-start.ensures.0 in
-    (omega (arith, i.0), omega (arith, t), writing_no _ _ p.0.0 _ p.0.1 _ _ _ _ _ i.2 t _ e c.if1.false, i.3, i.4)
+    let i = c.loop-c.invariant in
+    let p = c.requires in
+    let t = c.loop-c-test.true in
+    let e = ap (λ a. get_or c.args.lines.now (a + c.loop-c.c) 0) c.line_start-at.ensures.0 in
+    (omega (arith, i.0), omega (arith, t), writing_no _ _ p.0.0 _ p.0.1 _ _ _ _ _ i.2 t _ e c.if-cell-ne0.false, i.3, i.4)
 
-same_length : tie.Need-same-length invariant-loop decreases-loop
+same_length : tie.Need-shape_of-parents invariant-loop decreases-loop
 same_length c =
-    c.before.loop.invariant.2.long ∙ sym c.before.before.before.before.before.before.before.before.before.requires.1.1.1
+    c.loop-c.invariant.2.long ∙ sym c.requires.1.1.1
 
-same-length-2 : tie.Need-same-length-2 invariant-loop decreases-loop
+same-length-2 : tie.Need-shape_of-index invariant-loop decreases-loop
 same-length-2 c =
-    c.before.loop.invariant.3
+    c.loop-c.invariant.3
 
 returns : tie.Need-returns invariant-loop decreases-loop
 returns c =
-    let i = c.before.loop.invariant in
-    let p = c.before.before.before.before.before.before.before.before.before.requires in
-    record { next = leave _ _ p.0.0 _ p.0.1 _ _ _ _ _ (omega (arith, p.0.2)) c.loop-test.false i.2; words = i.4 }
+    let i = c.loop-c.invariant in
+    let p = c.requires in
+    record { next = leave _ _ p.0.0 _ p.0.1 _ _ _ _ _ (omega (arith, p.0.2)) c.loop-c-test.false i.2; words = i.4 }
 
 pub write_columns_spec : {M : Type 1} → statement M
 write_columns_spec =
