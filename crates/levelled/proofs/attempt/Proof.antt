@@ -14,74 +14,74 @@ use Rattle.levelled.proofs.run.Reads as run-reads
 refused-requires : tie.Need-refused-requires
 refused-requires c κs = search rules
 
-returns : tie.Need-returns
+returns : tie.Need-returns-then-width-eq0
 returns c =
-    attempt_18 c.before.before.before.before.args.lines.now c.before.before.before.before.args.width _ _ _ _ _ c.refused.ensures (width_zero c.before.before.before.before.args.lines.now c.before.before.before.before.args.width c.before.if1.true)
+    attempt_18 c.args.lines.now c.args.width _ _ _ _ _ c.refused.ensures (width_zero c.args.lines.now c.args.width c.if-width-eq0.true)
 
-refused-requires-2 : tie.Need-refused-requires-2
+refused-requires-2 : tie.Need-refused-requires-then-width-gt8
 refused-requires-2 c κs = search rules
 
-returns-2 : tie.Need-returns-2
+returns-2 : tie.Need-returns-then-width-gt8
 returns-2 c =
-    attempt_18 c.before.before.before.before.before.args.lines.now c.before.before.before.before.before.args.width _ _ _ _ _ c.refused2.ensures (width_large c.before.before.before.before.before.args.lines.now c.before.before.before.before.before.args.width c.before.if2.true)
+    attempt_18 c.args.lines.now c.args.width _ _ _ _ _ c.refused-then-width-gt8.ensures (width_large c.args.lines.now c.args.width c.if-width-gt8.true)
 
-rem-if3 : tie.Need-nonzero-rem-if3
+rem-if3 : tie.Need-nonzero_rem-lines
 rem-if3 c = search rules
 
-refused-requires-3 : tie.Need-refused-requires-3
+refused-requires-3 : tie.Need-refused-requires-then-lines-w-ne0
 refused-requires-3 c κs = search rules
 
-returns-3 : tie.Need-returns-3
+returns-3 : tie.Need-returns-then-lines-w-ne0
 returns-3 c =
-    attempt_18 c.before.before.before.before.before.before.args.lines.now c.before.before.before.before.before.before.args.width _ _ _ _ _ c.refused3.ensures (not_whole c.before.before.before.before.before.before.args.lines.now c.before.before.before.before.before.before.args.width c.before.before.before.if1.false c.before.before.if2.false c.before.if3.true)
+    attempt_18 c.args.lines.now c.args.width _ _ _ _ _ c.refused-then-lines-w-ne0.ensures (not_whole c.args.lines.now c.args.width c.if-width-eq0.false c.if-width-gt8.false c.if-lines-w-ne0.true)
 
-div-count : tie.Need-nonzero-div-count
+div-count : tie.Need-nonzero_div-count
 div-count c = search rules
 
-refused-requires-4 : tie.Need-refused-requires-4
+refused-requires-4 : tie.Need-refused-requires-then-count-gt512
 refused-requires-4 c κs = search rules
 
-returns-4 : tie.Need-returns-4
+returns-4 : tie.Need-returns-then-count-gt512
 returns-4 c =
-    attempt_19 c.before.before.before.before.before.before.before.args.lines.now c.before.before.before.before.before.before.before.args.width _ _ _ _ _ c.refused4.ensures (whole_lines c.before.before.before.before.before.before.before.args.lines.now c.before.before.before.before.before.before.before.args.width c.before.before.before.before.if1.false c.before.before.before.if2.false c.before.before.if3.false) (too_many c.before.before.before.before.before.before.before.args.lines.now c.before.before.before.before.before.before.before.args.width c.before.if4.true)
+    attempt_19 c.args.lines.now c.args.width _ _ _ _ _ c.refused-then-count-gt512.ensures (whole_lines c.args.lines.now c.args.width c.if-width-eq0.false c.if-width-gt8.false c.if-lines-w-ne0.false) (too_many c.args.lines.now c.args.width c.if-count-gt512.true)
 
-array-borrow-prefix-order : tie.Need-array-borrow-prefix-order
+array-borrow-prefix-order : tie.Need-slice_bounds-order-end
 array-borrow-prefix-order c = search rules
 
-slice-aggregate-run : tie.Need-slice-aggregate-run
+slice-aggregate-run : tie.Need-slice_bounds-run-end
 slice-aggregate-run c =
-    sym (taken _ 512 (replicate 512 0) refl c.before.if4.false)
+    sym (taken _ 512 (replicate 512 0) refl c.if-count-gt512.false)
 
-array-borrow-prefix-shared : tie.Need-array-borrow-prefix-shared
+array-borrow-prefix-shared : tie.Need-slice_bounds-shared-end
 array-borrow-prefix-shared c = search rules
 
-slice-aggregate-run-2 : tie.Need-slice-aggregate-run-2
+slice-aggregate-run-2 : tie.Need-slice_bounds-run-end-2
 slice-aggregate-run-2 c =
-    sym (taken _ 512 (replicate 512 0) refl c.before.before.if4.false)
+    sym (taken _ 512 (replicate 512 0) refl c.if-count-gt512.false)
 
-add-firsts : tie.Need-overflow-add-firsts
+add-firsts : tie.Need-overflow_add-firsts
 add-firsts c = search rules
 
-array-borrow-prefix-firsts : tie.Need-array-borrow-prefix-firsts
+array-borrow-prefix-firsts : tie.Need-slice_bounds-firsts-end
 array-borrow-prefix-firsts c = search rules
 
-slice-aggregate-run-3 : tie.Need-slice-aggregate-run-3
+slice-aggregate-run-3 : tie.Need-slice_bounds-run-end-3
 slice-aggregate-run-3 c =
-    sym (taken _ 513 (replicate 513 0) refl (omega (arith, c.before.before.before.if4.false)))
+    sym (taken _ 513 (replicate 513 0) refl (omega (arith, c.if-count-gt512.false)))
 
 run-requires : tie.Need-run-requires
 run-requires c κs =
-    let h = c.before.before.before.before.before.if4.false in
+    let h = c.if-count-gt512.false in
     let q = taken _ 512 (replicate 512 0) refl h in
-    (whole_lines c.before.before.before.before.before.before.before.before.before.before.before.args.lines.now c.before.before.before.before.before.before.before.before.before.before.before.args.width c.before.before.before.before.before.before.before.before.if1.false c.before.before.before.before.before.before.before.if2.false c.before.before.before.before.before.before.if3.false, few_lines c.before.before.before.before.before.before.before.before.before.before.before.args.lines.now c.before.before.before.before.before.before.before.before.before.before.before.args.width h, omega (arith, c.before.before.before.before.before.before.before.before.if1.false), c.before.before.before.before.before.before.before.if2.false, omega (arith, q), q, refl, taken _ 513 (replicate 513 0) refl (omega (arith, h)) ∙ ap (λ n. n + 1) (sym q))
+    (whole_lines c.args.lines.now c.args.width c.if-width-eq0.false c.if-width-gt8.false c.if-lines-w-ne0.false, few_lines c.args.lines.now c.args.width h, omega (arith, c.if-width-eq0.false), c.if-width-gt8.false, omega (arith, q), q, refl, taken _ 513 (replicate 513 0) refl (omega (arith, h)) ∙ ap (λ n. n + 1) (sym q))
 
-same_length : tie.Need-same-length
+same_length : tie.Need-shape_of-index
 same_length c = search rules
 
-same-length-2 : tie.Need-same-length-2
+same-length-2 : tie.Need-shape_of-totals
 same-length-2 c = search rules
 
-returns-5 : tie.Need-returns-5
+returns-5 : tie.Need-returns
 returns-5 c = search rules
 
 pub attempt_spec : {M : Type 1} → statement M

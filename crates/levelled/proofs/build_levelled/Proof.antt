@@ -5,22 +5,22 @@ use Prim.Native.Nat.{◌-◌}
 use Rattle.levelled.proofs.build_levelled.Statement.{statement}
 use Rattle.levelled.proofs.build_levelled.Tie as tie
 
-attempt-requires : tie.Need-attempt-requires
+attempt-requires : tie.Need-attempt-built-requires
 attempt-requires c κs = search rules
 
 settle-requires : tie.Need-settle-requires
 settle-requires c κs = search rules
 
-same_length : tie.Need-same-length
+same_length : tie.Need-shape_of-index
 same_length c = search rules
 
-same-length-2 : tie.Need-same-length-2
+same-length-2 : tie.Need-shape_of-totals
 same-length-2 c = search rules
 
 returns : tie.Need-returns
 returns c =
-    let v = c.before.before.before.before.before.before.before.before.before.attempt.ensures in
-    (c.before.before.before.settle.ensures.0 ∙ list_answer_lem _ _ _ _ _ _ _ v, (list_index _ _ _ _ _ _ _ v _ c.before.before.before.before.before.before.before.before.index.given c.before.before.before.settle.ensures.1.0, list_totals _ _ _ _ _ _ _ v _ c.before.before.before.before.before.before.totals.given c.before.before.before.settle.ensures.1.1))
+    let v = c.attempt-built.ensures in
+    (c.settle.ensures.0 ∙ list_answer_lem _ _ _ _ _ _ _ v, (list_index _ _ _ _ _ _ _ v _ c.index-1.given c.settle.ensures.1.0, list_totals _ _ _ _ _ _ _ v _ c.totals-1.given c.settle.ensures.1.1))
 
 pub build_levelled_spec : {M : Type 1} → statement M
 build_levelled_spec =
