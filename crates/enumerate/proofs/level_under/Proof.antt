@@ -4,13 +4,13 @@ use Rattle.enumerate.proofs.level_under.Tie as tie
 use Rattle.enumerate.proofs.level_under.Reads as reads
 use Rattle.enumerate.proofs.level_under.Lts as lts
 
-returns : tie.Need-returns
+returns : tie.Need-returns-then-rank-eq0
 returns c =
-    level_root _ c.if1.true
+    level_root _ c.if-rank-eq0.true
 
-returns-2 : tie.Need-returns-2
+returns-2 : tie.Need-returns-else-rank-eq0
 returns-2 c =
-    level_adopted _ c.if1.false
+    level_adopted _ c.if-rank-eq0.false
 
 pub level_under_spec : {M : Type 1} → statement M
 level_under_spec = tie.close (tie.spec returns returns-2)

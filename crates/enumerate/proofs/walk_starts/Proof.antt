@@ -8,40 +8,40 @@ use Rattle.enumerate.proofs.walk_starts.Lts as lts
 use Rattle.table.proofs.rows.Reads as rows-reads
 use Rattle.walk.proofs.roots.Reads as roots-reads
 
-roots-requires : tie.Need-roots-requires
+roots-requires : tie.Need-roots-first-requires
 roots-requires c κs = search rules
 
-same_length : tie.Need-same-length
+same_length : tie.Need-shape_of-marks-then-bounds-first
 same_length c = search rules
 
-same-length-2 : tie.Need-same-length-2
+same-length-2 : tie.Need-shape_of-index-then-bounds-first
 same-length-2 c = search rules
 
-returns : tie.Need-returns
+returns : tie.Need-returns-then-bounds-first
 returns c =
-    starts_stop _ _ _ _ _ c.before.before.before.before.before.before.before.before.before.before.before.before.before.requires.1.0 _ _ _ _ _ c.before.before.before.before.before.before.before.roots.ensures c.if1.true
+    starts_stop _ _ _ _ _ c.requires.1.0 _ _ _ _ _ c.roots-first.ensures c.if-bounds-first.true
 
-rows-requires : tie.Need-rows-requires
+rows-requires : tie.Need-rows-n-requires
 rows-requires c κs = search rules
 
-cast-n : tie.Need-overflow-cast-n
+cast-n : tie.Need-overflow_cast-n
 cast-n c =
-    omega (arith, c.before.before.before.before.before.before.before.before.before.before.before.before.before.before.requires.1, c.rows.ensures 3)
+    omega (arith, c.requires.1, c.rows-n.ensures 3)
 
-roots-requires-2 : tie.Need-roots-requires-2
+roots-requires-2 : tie.Need-roots-progress-requires
 roots-requires-2 c κs =
-    let s = c.before.before.before.before.before.before.before.before.before.before.before.before.before.before.before.before in
-    (walkable_kept (sym c.before.before.before.before.before.before.before.before.before.marks.given) s.requires.0, (omega (arith, c.before.before.rows.ensures 3), c.before.before.before.if1.false, s.requires.1.2, omega (arith, s.requires.1, c.before.before.before.before.before.before.before.index.given)))
+    let s = c in
+    (walkable_kept (sym c.marks-1.given) s.requires.0, (omega (arith, c.rows-n.ensures 3), c.if-bounds-first.false, s.requires.1.2, omega (arith, s.requires.1, c.index-1.given)))
 
-same-length-3 : tie.Need-same-length-3
+same-length-3 : tie.Need-shape_of-marks
 same-length-3 c = search rules
 
-same-length-4 : tie.Need-same-length-4
+same-length-4 : tie.Need-shape_of-index
 same-length-4 c = search rules
 
-returns-2 : tie.Need-returns-2
+returns-2 : tie.Need-returns
 returns-2 c =
-    starts_both _ _ _ _ _ c.before.before.before.before.before.before.before.before.before.before.before.before.before.before.before.before.before.before.before.before.before.requires.1.0 _ _ _ _ _ _ _ _ c.before.before.before.before.before.before.before.before.before.before.before.before.before.before.before.roots.ensures c.before.before.before.before.before.before.before.before.if1.false (rw (c.before.before.before.before.before.before.before.rows.ensures 3) at c.before.before.before.before.roots2.ensures)
+    starts_both _ _ _ _ _ c.requires.1.0 _ _ _ _ _ _ _ _ c.roots-first.ensures c.if-bounds-first.false (rw (c.rows-n.ensures 3) at c.roots-progress.ensures)
 
 pub walk_starts_spec : {M : Type 1} → statement M
 walk_starts_spec =

@@ -8,35 +8,35 @@ use Rattle.enumerate.proofs.level_under.Reads as level-under-reads
 use Rattle.table.proofs.rows.Reads as rows-reads
 use Rattle.walk.proofs.roots.Reads as roots-reads
 
-level-under-requires : tie.Need-level-under-requires
+level-under-requires : tie.Need-level_under-level-requires
 level-under-requires c κs = search rules
 
-rows-requires : tie.Need-rows-requires
+rows-requires : tie.Need-rows-n-requires
 rows-requires c κs = search rules
 
-cast-n : tie.Need-overflow-cast-n
+cast-n : tie.Need-overflow_cast-n
 cast-n c =
-    omega (arith, c.rows.ensures 0, c.before.before.before.before.before.requires.0.1)
+    omega (arith, c.rows-n.ensures 0, c.requires.0.1)
 
-add-t12 : tie.Need-overflow-add-t12
+add-t12 : tie.Need-overflow_add-bounds
 add-t12 c =
-    omega (arith, c.rows.ensures 0, c.before.before.before.before.before.requires.0.1, c.before.level-under.ensures, level_le c.before.before.before.before.before.args.rank)
+    omega (arith, c.rows-n.ensures 0, c.requires.0.1, c.level_under-level.ensures, level_le c.args.rank)
 
 roots-requires : tie.Need-roots-requires
 roots-requires c κs =
-    let s = c.before.before.before.before.before.before.before in
-    (s.requires.0.0, (omega (arith, c.before.before.rows.ensures 3), s.requires.1.0, s.requires.1.1, s.requires.1.2))
+    let s = c in
+    (s.requires.0.0, (omega (arith, c.rows-n.ensures 3), s.requires.1.0, s.requires.1.1, s.requires.1.2))
 
-same_length : tie.Need-same-length
+same_length : tie.Need-shape_of-marks
 same_length c = search rules
 
-same-length-2 : tie.Need-same-length-2
+same-length-2 : tie.Need-shape_of-index
 same-length-2 c = search rules
 
 returns : tie.Need-returns
 returns c =
-    let s = c.before.before.before.before.before.before.before.before.before.before.before.before in
-    tops_walked s.args.table.now s.args.rank _ _ _ _ _ _ _ _ _ c.before.before.before.before.before.before.before.before.level-under.ensures (c.before.before.before.before.before.before.before.rows.ensures 0) c.before.before.before.before.roots.ensures
+    let s = c in
+    tops_walked s.args.table.now s.args.rank _ _ _ _ _ _ _ _ _ c.level_under-level.ensures (c.rows-n.ensures 0) c.roots.ensures
 
 pub walk_tops_spec : {M : Type 1} → statement M
 walk_tops_spec =
