@@ -43,7 +43,7 @@ module _ (R : List Row) {code : ℕ} {depth : Depth} {starts : Row → Bool} {fi
           let node : node_at W k ≡ q.0 = ap (λ n. get_or W n []) (omega arith) ∙ at.2 in
           (k, omega arith, omega (arith, at.1, a.count), (a.bodies k (omega arith) (omega (arith, at.1))).row ∙ ap (λ p. shown_row R (last p)) node ∙ ap (shown_row R) (eqb→eq (last q.0) x q.2) ∙ shown_row_lem R x r.1)
       go false e =
-          absurd (none_in a.left_rows x (sym a.left_count ∙ none) ((a.left_is x).1 (r, (λ p n l. subst T e (any_in ends W p ((b.build.nodes.holds p).1 n) (eq→eqb (last p) x l))))))
+          absurd (none_in a.left_rows x (sym a.left_count_lem ∙ none) ((a.left_is x).1 (r, (λ p n l. subst T e (any_in ends W p ((b.build.nodes.holds p).1 n) (eq→eqb (last p) x l))))))
 
 -- of sentences 6 to 12 only the ninth can apply to a build by default
 only_ninth : (R : List Row) (es : List ℕ) (words totals : ℕ) (W : List (List ℕ)) (q : ℕ) → by_default (BuildRefusal R) es words totals W q → First (NoRoom words totals (length W)) 9 NoOther q
