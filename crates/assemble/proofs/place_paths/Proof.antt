@@ -7,59 +7,59 @@ use native.Mathlib.Omega.{arith}
 use Rattle.assemble.proofs.place_paths.Statement.{statement}
 use Rattle.assemble.proofs.place_paths.Tie as tie
 
-early-refusal-requires : tie.Need-early-refusal-requires
+early-refusal-requires : tie.Need-early_refusal-refusal-requires
 early-refusal-requires c κs =
-    let a = c.before.before.before.before.before.requires.0 in
+    let a = c.requires.0 in
     omega (arith, rows_long a.R _ _ _ a.rows.prepared.ordered, a.rows.prepared.ordered.few)
 
 refused-requires : tie.Need-refused-requires
 refused-requires c κs = search rules
 
-same_length : tie.Need-same-length
+same_length : tie.Need-shape_of-table-then-refusal-ne0
 same_length c = search rules
 
-returns : tie.Need-returns
+returns : tie.Need-returns-then-refusal-ne0
 returns c =
-    let s = c.before.before.before.before.before.before.before.before in
+    let s = c in
     λ R start code y e six.
-    early_built R code s.args.depth start _ y.prepared y.flags_are s.args.choice e six (seven_is code s.args.choice s.args.depth e ∙ s.requires.1.0.1) _ _ _ _ _ _ c.before.before.early-refusal.ensures c.before.if1.true c.refused.ensures
+    early_built R code s.args.depth start _ y.prepared y.flags_are s.args.choice e six (seven_is code s.args.choice s.args.depth e ∙ s.requires.1.0.1) _ _ _ _ _ _ c.early_refusal-refusal.ensures c.if-refusal-ne0.true c.refused.ensures
 
-capacity-requires : tie.Need-capacity-requires
+capacity-requires : tie.Need-capacity-cap-requires
 capacity-requires c κs =
-    let p = early_clear _ _ _ (sym c.before.early-refusal.ensures ∙ c.if1.false) in (p.1, p.2)
+    let p = early_clear _ _ _ (sym c.early_refusal-refusal.ensures ∙ c.if-refusal-ne0.false) in (p.1, p.2)
 
-write-nodes-requires : tie.Need-write-nodes-requires
+write-nodes-requires : tie.Need-write_nodes-requires
 write-nodes-requires c κs =
-    let s = c.before.before.before.before.before.before.before.before.before.before.before.before.before in
-    let p = early_clear _ _ _ (sym c.before.before.before.before.before.before.before.early-refusal.ensures ∙ c.before.before.before.before.before.before.if1.false) in
-    (s.requires.0, ((s.requires.1.0.0, given_test s.args.depth s.args.choice.orphan s.requires.1.0.1, p.1, p.2, c.before.before.before.before.before.capacity.ensures), s.requires.1.1))
+    let s = c in
+    let p = early_clear _ _ _ (sym c.early_refusal-refusal.ensures ∙ c.if-refusal-ne0.false) in
+    (s.requires.0, ((s.requires.1.0.0, given_test s.args.depth s.args.choice.orphan s.requires.1.0.1, p.1, p.2, c.capacity-cap.ensures), s.requires.1.1))
 
-same-length-2 : tie.Need-same-length-2
+same-length-2 : tie.Need-shape_of-table
 same-length-2 c =
-    c.before.before.before.before.before.before.before.before.table.given
+    c.table-1.given
 
-same-length-3 : tie.Need-same-length-3
+same-length-3 : tie.Need-shape_of-reached
 same-length-3 c =
-    c.before.before.before.before.before.before.reached.given
+    c.reached-1.given
 
-same-length-4 : tie.Need-same-length-4
+same-length-4 : tie.Need-shape_of-marks
 same-length-4 c =
-    c.before.before.before.before.marks.given
+    c.marks-1.given
 
-same-length-5 : tie.Need-same-length-5
+same-length-5 : tie.Need-shape_of-index
 same-length-5 c =
-    c.before.before.index.given
+    c.index-1.given
 
-same-length-6 : tie.Need-same-length-6
+same-length-6 : tie.Need-shape_of-totals
 same-length-6 c =
-    c.totals.given
+    c.totals-1.given
 
-returns-2 : tie.Need-returns-2
+returns-2 : tie.Need-returns
 returns-2 c =
-    let s = c.before.before.before.before.before.before.before.before.before.before.before.before.before.before.before.before.before.before.before.before.before.before.before in
+    let s = c in
     λ R start code y e six.
-    c.before.before.before.before.before.before.before.before.before.write-nodes.ensures R start code y e six (seven_is code s.args.choice s.args.depth e ∙ s.requires.1.0.1)
-    (early_start R code s.args.depth start _ y.prepared y.flags_are s.args.choice e _ _ _ c.before.before.before.before.before.before.before.before.before.before.before.before.before.before.before.before.before.early-refusal.ensures c.before.before.before.before.before.before.before.before.before.before.before.before.before.before.before.before.if1.false)
+    c.write_nodes.ensures R start code y e six (seven_is code s.args.choice s.args.depth e ∙ s.requires.1.0.1)
+    (early_start R code s.args.depth start _ y.prepared y.flags_are s.args.choice e _ _ _ c.early_refusal-refusal.ensures c.if-refusal-ne0.false)
 
 pub place_paths_spec : {M : Type 1} → statement M
 place_paths_spec =

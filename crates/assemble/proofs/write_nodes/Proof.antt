@@ -10,9 +10,9 @@ use lib.ListN.{length}
 use Rattle.assemble.proofs.write_nodes.Statement.{statement}
 use Rattle.assemble.proofs.write_nodes.Tie as tie
 
-enumerate-requires : tie.Need-enumerate-requires
+enumerate-requires : tie.Need-enumerate-progress-requires
 enumerate-requires c κs =
-    let s = c.before.before.before.before.before.before.before.before in
+    let s = c in
     let a = s.requires.0 in
     let q = s.requires.1.0 in
     let b = capacity_bounds (length s.args.index.now) (length s.args.totals.now) q.2 in
@@ -21,72 +21,72 @@ enumerate-requires c κs =
 refused-requires : tie.Need-refused-requires
 refused-requires c κs = search rules
 
-same_length : tie.Need-same-length
+same_length : tie.Need-shape_of-table-then-cap-progress
 same_length c =
-    c.before.before.before.before.before.before.before.before.before.before.table.given
+    c.table-1.given
 
-same-length-2 : tie.Need-same-length-2
+same-length-2 : tie.Need-shape_of-reached-then-cap-progress
 same-length-2 c =
-    c.before.before.before.before.before.before.before.before.reached.given
+    c.reached-1.given
 
-same-length-3 : tie.Need-same-length-3
+same-length-3 : tie.Need-shape_of-marks-then-cap-progress
 same-length-3 c =
-    c.before.before.before.before.before.before.marks.given
+    c.marks-1.given
 
-same-length-4 : tie.Need-same-length-4
+same-length-4 : tie.Need-shape_of-index-then-cap-progress
 same-length-4 c =
-    c.before.before.before.before.index.given
+    c.index-1.given
 
-returns : tie.Need-returns
+returns : tie.Need-returns-then-cap-progress
 returns c =
-    let s = c.before.before.before.before.before.before.before.before.before.before.before.before.before.before.before.before.before.before.before.before in
+    let s = c in
     let q = s.requires.1.0 in
     λ R start code y e six seven eight.
     nodes_nine R code s.args.depth start _ _ _ _ s.args.choice e six seven eight _
-    (nodes_over R s.args.choice.orphan _ _ _ _ q.2 q.3 (omega (arith, q.4)) _ _ _ _ refl _ (c.before.before.before.before.before.before.before.before.before.before.before.enumerate.ensures.0 R start y.prepared y.flags_are y.numbered) q.4 c.before.if1.true) c.refused.ensures
+    (nodes_over R s.args.choice.orphan _ _ _ _ q.2 q.3 (omega (arith, q.4)) _ _ _ _ refl _ (c.enumerate-progress.ensures.0 R start y.prepared y.flags_are y.numbered) q.4 c.if-cap-progress.true) c.refused.ensures
 
 finish-requires : tie.Need-finish-requires
 finish-requires c κs =
-    let s = c.before.before.before.before.before.before.before.before.before.before.before.before.before.before.before.before.before.before.before.before.before.before.before in
+    let s = c in
     let a = s.requires.0 in
     let q = s.requires.1.0 in
-    let k = c.before.before.before.before.before.before.before.before.before.before.before.before.before.before.enumerate.ensures.1 in
-    let w = c.before.before.before.before.before.before.before.before.before.before.before.before.before.before.enumerate.ensures.0 a.R a.start a.rows.prepared a.rows.flags_are a.rows.numbered in
+    let k = c.enumerate-progress.ensures.1 in
+    let w = c.enumerate-progress.ensures.0 a.R a.start a.rows.prepared a.rows.flags_are a.rows.numbered in
     let n : ℕ = length (row_column s.args.table.now) in
     let long : length s.args.reached.now ≡ n = ap length s.requires.1.1.reached_clear ∙ length-replicate {A = ℕ} n 0 in (
-      record { R = a.R; bs = _; before = _; written = nodes_written a.R s.args.choice.orphan _ _ _ _ q.2 q.3 (omega (arith, q.4)) _ _ _ _ refl _ w c.before.before.before.before.if1.false (bodies_over a.R a.start s.args.depth _) (bodies_named a.R a.start s.args.depth s.args.choice.orphan); classes = classes_of a.R _ _ a.rows.prepared k; minutes_are = a.rows.minutes_are },
-      (c.before.before.before.before.before.before.before.before.before.before.before.reached.given ∙ long ∙ sym (ap length k.rows_same), nodes_few a.R s.args.choice.orphan _ _ _ _ q.2 q.3 (omega (arith, q.4)) _ _ _ _ refl _ w c.before.before.before.before.if1.false),
+      record { R = a.R; bs = _; before = _; written = nodes_written a.R s.args.choice.orphan _ _ _ _ q.2 q.3 (omega (arith, q.4)) _ _ _ _ refl _ w c.if-cap-progress.false (bodies_over a.R a.start s.args.depth _) (bodies_named a.R a.start s.args.depth s.args.choice.orphan); classes = classes_of a.R _ _ a.rows.prepared k; minutes_are = a.rows.minutes_are },
+      (c.reached-1.given ∙ long ∙ sym (ap length k.rows_same), nodes_few a.R s.args.choice.orphan _ _ _ _ q.2 q.3 (omega (arith, q.4)) _ _ _ _ refl _ w c.if-cap-progress.false),
     )
 
-same-length-5 : tie.Need-same-length-5
+same-length-5 : tie.Need-shape_of-table
 same-length-5 c =
-    c.before.before.before.before.before.before.table2.given ∙ c.before.before.before.before.before.before.before.before.before.before.before.before.before.before.before.before.before.before.before.before.before.table.given
+    c.table-2-1.given ∙ c.table-1.given
 
-same-length-6 : tie.Need-same-length-6
+same-length-6 : tie.Need-shape_of-reached
 same-length-6 c =
-    c.before.before.before.before.reached2.given ∙ c.before.before.before.before.before.before.before.before.before.before.before.before.before.before.before.before.before.before.before.reached.given
+    c.reached-2-1.given ∙ c.reached-1.given
 
-same-length-7 : tie.Need-same-length-7
+same-length-7 : tie.Need-shape_of-marks
 same-length-7 c =
-    c.before.before.before.before.before.before.before.before.before.before.before.before.before.before.before.before.before.marks.given
+    c.marks-1.given
 
-same-length-8 : tie.Need-same-length-8
+same-length-8 : tie.Need-shape_of-index
 same-length-8 c =
-    c.before.before.index2.given ∙ c.before.before.before.before.before.before.before.before.before.before.before.before.before.before.before.index.given
+    c.index-2-1.given ∙ c.index-1.given
 
-same-length-9 : tie.Need-same-length-9
+same-length-9 : tie.Need-shape_of-totals
 same-length-9 c =
-    c.totals.given
+    c.totals-1.given
 
-returns-2 : tie.Need-returns-2
+returns-2 : tie.Need-returns
 returns-2 c =
-    let s = c.before.before.before.before.before.before.before.before.before.before.before.before.before.before.before.before.before.before.before.before.before.before.before.before.before.before.before.before.before.before.before in
+    let s = c in
     let q = s.requires.1.0 in
     λ R start code y e six seven eight.
-    let w = c.before.before.before.before.before.before.before.before.before.before.before.before.before.before.before.before.before.before.before.before.before.before.enumerate.ensures.0 R start y.prepared y.flags_are y.numbered in
+    let w = c.enumerate-progress.ensures.0 R start y.prepared y.flags_are y.numbered in
     nodes_finished R code s.args.depth start _ _ _ _ s.args.choice e six seven eight _
-    (nodes_fit R s.args.choice.orphan _ _ _ _ q.2 q.3 (omega (arith, q.4)) _ _ _ _ refl _ w c.before.before.before.before.before.before.before.before.before.before.before.before.if1.false)
-    (c.before.before.before.before.before.before.before.finish.ensures R _ _ (nodes_written R s.args.choice.orphan _ _ _ _ q.2 q.3 (omega (arith, q.4)) _ _ _ _ refl _ w c.before.before.before.before.before.before.before.before.before.before.before.before.if1.false (bodies_over R start s.args.depth _) (bodies_named R start s.args.depth s.args.choice.orphan)) (none_left R start s.args.depth code s.args.choice e q.1 eight) (classes_of R _ _ y.prepared c.before.before.before.before.before.before.before.before.before.before.before.before.before.before.before.before.before.before.before.before.before.before.enumerate.ensures.1) y.minutes_are)
+    (nodes_fit R s.args.choice.orphan _ _ _ _ q.2 q.3 (omega (arith, q.4)) _ _ _ _ refl _ w c.if-cap-progress.false)
+    (c.finish.ensures R _ _ (nodes_written R s.args.choice.orphan _ _ _ _ q.2 q.3 (omega (arith, q.4)) _ _ _ _ refl _ w c.if-cap-progress.false (bodies_over R start s.args.depth _) (bodies_named R start s.args.depth s.args.choice.orphan)) (none_left R start s.args.depth code s.args.choice e q.1 eight) (classes_of R _ _ y.prepared c.enumerate-progress.ensures.1) y.minutes_are)
 
 pub write_nodes_spec : {M : Type 1} → statement M
 write_nodes_spec =
