@@ -21,47 +21,47 @@ refused-requires : tie.Need-refused-requires
 refused-requires c κs = search rules
 
 -- src/lib.rt:105:9
-returns : tie.Need-returns
+returns : tie.Need-returns-then-not-sound
 returns c =
-    attempt_unsound _ _ _ _ _ _ _ _ _ c.before.before.before.before.before.before.args.asked (sym c.before.before.sound.ensures ∙ not-true c.before.before.sound.result c.before.if1.true) c.refused.ensures
+    attempt_unsound _ _ _ _ _ _ _ _ _ c.args.asked (sym c.sound.ensures ∙ c.if-not-sound.true) c.refused.ensures
 
 -- src/lib.rt:107:9
-judge-requires : tie.Need-judge-requires
+judge-requires : tie.Need-judge-judged-requires
 judge-requires c κs = search rules
 
 -- src/lib.rt:109:9
-refused-requires-2 : tie.Need-refused-requires-2
+refused-requires-2 : tie.Need-refused-requires-then-judged-ne0
 refused-requires-2 c κs = search rules
 
 -- src/lib.rt:109:9
-returns-2 : tie.Need-returns-2
+returns-2 : tie.Need-returns-then-judged-ne0
 returns-2 c =
-    let y = sym c.before.before.before.before.before.sound.ensures ∙ not-false c.before.before.before.before.before.sound.result c.before.before.before.before.if1.false in
-    attempt_judged _ _ _ _ _ _ _ _ _ c.before.before.before.before.before.before.before.before.before.args.asked c.before.before.before.judge.result c.before.before.before.judge.ensures y c.before.if2.true c.refused2.ensures
+    let y = sym c.sound.ensures ∙ c.if-not-sound.false in
+    attempt_judged _ _ _ _ _ _ _ _ _ c.args.asked c.judge-judged.result c.judge-judged.ensures y c.if-judged-ne0.true c.refused-then-judged-ne0.ensures
 
 -- src/lib.rt:114:5
-build-rows-requires : tie.Need-build-rows-requires
+build-rows-requires : tie.Need-build_rows-requires
 build-rows-requires c κs =
-    let y = sym c.before.before.before.before.before.before.before.before.sound.ensures ∙ not-false c.before.before.before.before.before.before.before.before.sound.result c.before.before.before.before.before.before.before.if1.false in
-    (sound_count _ y, judged_placeable c.before.before.before.before.before.before.before.before.before.before.before.before.args.asked _ c.before.before.before.before.before.before.judge.ensures c.before.before.before.before.if2.false, sound_numbered _ y)
+    let y = sym c.sound.ensures ∙ c.if-not-sound.false in
+    (sound_count _ y, judged_placeable c.args.asked _ c.judge-judged.ensures c.if-judged-ne0.false, sound_numbered _ y)
 
 -- src/lib.rt:93:1
-same_length : tie.Need-same-length
+same_length : tie.Need-shape_of-index
 same_length c = search rules
 
 -- src/lib.rt:93:1
-same-length-2 : tie.Need-same-length-2
+same-length-2 : tie.Need-shape_of-totals
 same-length-2 c = search rules
 
 -- src/lib.rt:93:1
-same-length-3 : tie.Need-same-length-3
+same-length-3 : tie.Need-shape_of-days
 same-length-3 c = search rules
 
 -- src/lib.rt:93:1
-returns-3 : tie.Need-returns-3
+returns-3 : tie.Need-returns
 returns-3 c =
-    let y = sym c.before.before.before.before.before.before.before.before.before.before.before.before.before.before.sound.ensures ∙ not-false c.before.before.before.before.before.before.before.before.before.before.before.before.before.before.sound.result c.before.before.before.before.before.before.before.before.before.before.before.before.before.if1.false in
-    attempt_built _ _ _ _ _ _ _ _ _ c.before.before.before.before.before.before.before.before.before.before.before.before.before.before.before.before.before.before.args.asked c.before.before.before.before.before.before.before.before.before.before.before.before.judge.result c.before.before.before.before.before.before.before.before.before.before.before.before.judge.ensures y c.before.before.before.before.before.before.before.before.before.before.if2.false c.before.before.before.before.before.build-rows.ensures
+    let y = sym c.sound.ensures ∙ c.if-not-sound.false in
+    attempt_built _ _ _ _ _ _ _ _ _ c.args.asked c.judge-judged.result c.judge-judged.ensures y c.if-judged-ne0.false c.build_rows.ensures
 
 pub attempt_spec : {M : Type 1} → statement M
 attempt_spec =

@@ -9,39 +9,39 @@ use Rattle.build.proofs.judge_code.Reads as judge-code-reads
 use Rattle.build.proofs.judge_days.Reads as judge-days-reads
 
 -- src/lib.rt:83:23
-enum-known-asked : tie.Need-enum-known-asked
+enum-known-asked : tie.Need-enum_known-asked
 enum-known-asked c = search rules
 
 -- src/lib.rt:83:39
-judge-code-requires : tie.Need-judge-code-requires
+judge-code-requires : tie.Need-judge_code-requires
 judge-code-requires c κs = search rules
 
 -- src/lib.rt:86:24
-enum_told : tie.Need-enum-told
+enum_told : tie.Need-enum_told-1
 enum_told c = search rules
 
 -- src/lib.rt:88:23
-enum-known-asked-2 : tie.Need-enum-known-asked-2
+enum-known-asked-2 : tie.Need-enum_known-asked-in-ByDays-1
 enum-known-asked-2 c = search rules
 
 -- src/lib.rt:88:47
-judge-days-requires : tie.Need-judge-days-requires
+judge-days-requires : tie.Need-judge_days-requires
 judge-days-requires c κs = search rules
 
 -- src/lib.rt:79:1
-returns : tie.Need-returns
+returns : tie.Need-returns-in-ByCode
 returns c =
-    judged_as _ _ c.before.before.asked.given.1 _ c.judge-code.ensures
+    judged_as _ _ c.in-ByCode.is _ c.judge_code.ensures
 
 -- src/lib.rt:79:1
-returns-2 : tie.Need-returns-2
+returns-2 : tie.Need-returns-in-ByShortest
 returns-2 c =
-    judged_as _ _ c.enum_told.given.1 _ refl
+    judged_as _ _ c.in-ByShortest.is _ refl
 
 -- src/lib.rt:79:1
-returns-3 : tie.Need-returns-3
+returns-3 : tie.Need-returns-in-ByDays
 returns-3 c =
-    judged_as _ _ c.before.before.asked2.given.1 _ c.judge-days.ensures
+    judged_as _ _ c.in-ByDays.is _ c.judge_days.ensures
 
 pub judge_spec : {M : Type 1} → statement M
 judge_spec =

@@ -7,23 +7,23 @@ use Prim.Native.Nat.{◌-◌}
 use Rattle.build.proofs.judge_code.Statement.{statement}
 use Rattle.build.proofs.judge_code.Tie as tie
 
-returns : tie.Need-returns
+returns : tie.Need-returns-then-code-gt23
 returns c =
-    judged_six _ _ _ (lt-ltb 23 c.before.args.code (omega (arith, c.if1.true))) refl
+    judged_six _ _ _ (lt-ltb 23 c.args.code (omega (arith, c.if-code-gt23.true))) refl
 
-choices-requires : tie.Need-choices-requires
+choices-requires : tie.Need-choices-choice-requires
 choices-requires c κs = search rules
 
-is-depth-refused-requires : tie.Need-is-depth-refused-requires
+is-depth-refused-requires : tie.Need-is_depth_refused-requires
 is-depth-refused-requires c κs = search rules
 
-returns-2 : tie.Need-returns-2
+returns-2 : tie.Need-returns-then-is_depth_refused
 returns-2 c =
-    judged_seven _ _ _ _ c.before.before.choices.ensures (le-ltb 23 c.before.before.before.before.args.code (omega (arith, c.before.before.before.if1.false))) (sym c.before.is-depth-refused.ensures ∙ c.if2.true) refl
+    judged_seven _ _ _ _ c.choices-choice.ensures (le-ltb 23 c.args.code (omega (arith, c.if-code-gt23.false))) (sym c.is_depth_refused.ensures ∙ c.if-is_depth_refused.true) refl
 
-returns-3 : tie.Need-returns-3
+returns-3 : tie.Need-returns
 returns-3 c =
-    judged_none _ _ _ _ c.before.before.choices.ensures (le-ltb 23 c.before.before.before.before.args.code (omega (arith, c.before.before.before.if1.false))) (sym c.before.is-depth-refused.ensures ∙ c.if2.false) refl
+    judged_none _ _ _ _ c.choices-choice.ensures (le-ltb 23 c.args.code (omega (arith, c.if-code-gt23.false))) (sym c.is_depth_refused.ensures ∙ c.if-is_depth_refused.false) refl
 
 pub judge_code_spec : {M : Type 1} → statement M
 judge_code_spec =
