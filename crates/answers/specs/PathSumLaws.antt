@@ -15,7 +15,7 @@ use Rattle.spans.specs.Spans.{rank_refusal}
 use Rattle.spans.specs.HeldLaws.{no_rank}
 use Rattle.climb.specs.Climb.{chain}
 use Rattle.sums.specs.Sums.{total_at, leaves32, own_minutes, bad_totals, bad_own, bad_path, path_sum, sum_answer, path_answer}
-use Rattle.sums.specs.HeldLaws.{HoldsTotals, total_is, total_near, totals_held}
+use Rattle.sums.specs.HeldLaws.{HoldsTotals, total_is, total_near, totals_fit}
 use Rattle.forest.specs.Nodes.{node_at, begins, beginnings}
 use Rattle.forest.specs.ForestLaws.{Forest, node_in}
 use Rattle.answers.specs.Answers.{applies, otherwise, NoRank, PathSum}
@@ -68,7 +68,7 @@ module _ {W : List (List ℕ)} (g : Forest W) {bs : List Body} (b : Described W 
 
   pub path_sum_here : (rank : ℕ) → PathSum minutes W rank (path_answer s t rank)
   path_sum_here rank =
-      subst (λ q. PathSum minutes W rank (sum_answer (first_of (first_of q (rank_refusal s rank)) far) (path_sum s t rank))) (sym (totals_held k small h (sym (same_length g b))))
+      subst (λ q. PathSum minutes W rank (sum_answer (first_of (first_of q (rank_refusal s rank)) far) (path_sum s t rank))) (sym (totals_fit k small h (sym (same_length g b))))
       (subst (λ q. PathSum minutes W rank (sum_answer (first_of (first_of 0 q) far) (path_sum s t rank))) (sym (rank_refused g b short small h rank))
       (go (no_rank bs rank) (rank_test W bs (same_length g b) rank)))
     where

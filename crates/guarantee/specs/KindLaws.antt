@@ -16,7 +16,7 @@ use Rattle.built.specs.OutcomeLayer.{Outcome, answer_when, index_when, totals_wh
 use Rattle.forest.specs.Nodes.{node_at}
 use Rattle.forest.specs.ForestLaws.{Forest, Closed}
 use Rattle.sums.specs.Sums.{totals_refusal}
-use Rattle.sums.specs.HeldLaws.{HoldsTotals, totals_held}
+use Rattle.sums.specs.HeldLaws.{HoldsTotals, totals_fit}
 use Rattle.pull.specs.Pull.{bad_pull, pull_refusal, pull_out, pulled_minutes, SomeBeyond}
 use Rattle.pull.specs.MoveLaws.{kept, out_is}
 use Rattle.pull.specs.HeldLaws.{moved_held, bad_held, near_held, refusal_held, pull_held}
@@ -93,7 +93,7 @@ module _ (o : Outcome) where
         rows_here k low high = let d : Body = body_of index_here k in let n = same_length g.forest g.described in row_read held k d low (omega arith) ∙ (each k d low high).row
 
         totalled : totals_refusal (index_when o index true) (totals_when o totals true) ≡ 0
-        totalled = totals_held runs g.small held (sym (same_length g.forest g.described))
+        totalled = totals_fit runs g.small held (sym (same_length g.forest g.described))
 
         module _ (row : ℕ) (difference : ℤ) where
           -- the totals afterwards where it isn't refused

@@ -39,8 +39,8 @@ module _ {A : Type 0} {f : A → ℤ} {l : List A} {t : List ℤ} (g : HoldsTota
   totals_long : suc (length l) ≤ length t
   totals_long = omega (arith, ap length g.is, length-append (totals_from f (pos 0) l) g.rest, totals_length f (pos 0) l)
 
-  pub totals_held : length l ≤ 65535 → {s : List ℕ} {bs : List Body} → HoldsImage s bs → length l ≡ length bs → totals_refusal s t ≡ 0
-  totals_held few {s} {bs} h same =
+  pub totals_fit : length l ≤ 65535 → {s : List ℕ} {bs : List Body} → HoldsImage s bs → length l ≡ length bs → totals_refusal s t ≡ 0
+  totals_fit few {s} {bs} h same =
       let n : node_count s ≡ length bs = node_count_read h in
       let m = totals_long in
       ap (λ (b : Bool). first_of (cond b 13 0) (cond (few_totals s t) 13 0)) (contents_hold h (omega arith))
@@ -53,6 +53,9 @@ module _ {A : Type 0} {f : A → ℤ} {l : List A} {t : List ℤ} (g : HoldsTota
         ∙ not_beyond (sum f (take k l)) (omega (arith, sum_bound f (take k l) (λ x m. small x (take_in k l x m)), length-take-le k l b))
 
     module _ {s : List ℕ} {bs : List Body} (h : HoldsImage s bs) (d : Body) (sized : Sized bs d) (same : length l ≡ length bs) where
+      pub totals_held : totals_refusal s t ≡ 0
+      totals_held = totals_fit few h same
+
       module _ (rank : ℕ) where
         -- the minutes of the bodies of the span
         abbrev pub span_minutes : ℤ
@@ -87,7 +90,7 @@ module _ {A : Type 0} {f : A → ℤ} {l : List A} {t : List ℤ} (g : HoldsTota
         pub subtree_held : subtree_answer s t rank ≡ sum_answer (cond (no_rank bs rank) 14 0) span_minutes
         subtree_held =
             let far : ℕ = cond (beyond (total_at t (end_of s rank)) || beyond (total_at t (rank - 1))) 15 0 in
-            ap (λ (q : ℕ). sum_answer (first_of (first_of q (span_refusal s rank)) far) (span_sum s t rank)) (totals_held few h same)
+            ap (λ (q : ℕ). sum_answer (first_of (first_of q (span_refusal s rank)) far) (span_sum s t rank)) totals_held
             ∙ ap (λ (q : ℕ). sum_answer (first_of (first_of 0 q) far) (span_sum s t rank)) (span_held h (omega arith) d sized rank)
             ∙ go (no_rank bs rank) refl
           where
