@@ -20,17 +20,17 @@ ENTRIES = "board history build levelled spans navigate climb hops climber meet s
 
 # The theorems whose statements are followed.
 THEOREMS = {
-    "guarantee": "guarantee sound-build unsound-build sound-default default-leaves-none sound-shortest unsound-shortest sound-dated unsound-dated sound-pulls days-unread levelled-build marked-cases built-accepted built-distances built-links",
-    "hops": "accepted-hops",
-    "meet": "meeting apart-by-roots",
-    "pull": "total-moves unnamed-still subtree-moves",
-    "options": "taken-apart composed",
-    "islands": "entries-entered entered-unique",
-    "nodes": "joining-unique nodes-unique entry-closes entry-shares accepted-leaves-none",
-    "shortest": "shortest-unique",
-    "dated": "dated-unique",
-    "machine": "simulation final-state earlier-and-later undo-redo redo-undo board-undo-redo board-redo-undo",
-    "listing": "listing-outcome",
+    "guarantee": "guarantee sound_build unsound_build sound_default default_leaves_none sound_shortest unsound_shortest sound_dated unsound_dated sound_pulls days_unread levelled_build marked_cases built_accepted built_distances built_links",
+    "hops": "accepted_hops",
+    "meet": "meeting apart_by_roots",
+    "pull": "total_moves unnamed_still subtree_moves",
+    "options": "taken_apart composed",
+    "islands": "entries_entered entered_unique",
+    "nodes": "joining_unique nodes_unique entry_closes entry_shares accepted_leaves_none",
+    "shortest": "shortest_unique",
+    "dated": "dated_unique",
+    "machine": "simulation final_state earlier_and_later undo_redo redo_undo board_undo_redo board_redo_undo",
+    "listing": "listing_outcome",
 }
 
 DOCUMENT = "docs/PROOFS.md"
@@ -38,11 +38,11 @@ BEGIN, END = "<!-- tests/believed.py -->\n", "<!-- end -->\n"
 NOT_BELIEVED = re.compile(r"(Laws|Layer|Cases)$")
 
 USE = re.compile(r"^ *(?:(?:unfoldable|pub|ghost) )*use ([^{]+?)(?:\.\{(.*)\})?(?: as (\S+))?;?$")
-PROJECT = re.compile(r"^Rattle·(\w+)(?:·specs|·proofs)?\.(?:specs\.)?(.+)$")
+PATH = re.compile(r"^Rattle\.(\w+)\.(?:specs|proofs)\.(.+)$")
 MODULE = re.compile(r"^ *module \S+ ?(.*) where$")
 HEAD = re.compile(r"^ *(?:(?:abbrev|unfoldable|pub) )*(?:(record|data) (\S+)|(\S+)(?: \{[^:]*\})? :(?: |$))")
 PUBLIC = re.compile(r'^ *pub (?:extern "C" )?fn (\w+)')
-CONTRACT = re.compile(r"^ *(?:requires|ensures) \{(.*)\}$")
+CLAUSE = re.compile(r"^ *(?:requires|ensures)\*?(?: \w+)? \{(.*)$")
 
 
 def read_lines(path, comment):
@@ -67,17 +67,17 @@ class Scope:
 
     def use(self, line):
         path, names, module = USE.match(line).groups()
-        project = PROJECT.match(path)
-        if not project:
+        found = PATH.match(path)
+        if not found or not os.path.isdir(f"crates/{found.group(1)}"):
             return
         if module:
-            self.modules[module] = project.groups()
-        for name in (names or "").split(","):
+            self.modules[module] = found.groups()
+        for name in names.split(",") if names else ():
             name, _, other = name.strip().partition(" as ")
-            self.declare(other or name, project.groups() + (name,))
+            self.declare(other or name, found.groups() + (name,))
 
     def declare(self, name, target):
-        operator_parts = [part for part in name.split("_") if part] if "_" in name else []
+        operator_parts = [part for part in name.split("◌") if part] if "◌" in name else []
         for word in [name] + operator_parts:
             self.names[word] = target
 
@@ -85,12 +85,11 @@ class Scope:
         """The definitions that a text names; a field's name in `record { field = .. }` is none."""
         text = re.sub(r"([{;]) *\S+ =(?= )", r"\1", text)
         for word in re.sub(r"[(){};,]", " ", text).split():
-            word = word.rstrip(".")
-            module, _, name = word.partition(".")
-            if word in self.names:
-                yield self.names[word]
-            elif module in self.modules:
-                yield self.modules[module] + (name,)
+            first, _, rest = word.rstrip(".").partition(".")
+            if first in self.names:
+                yield self.names[first]
+            elif rest and first in self.modules:
+                yield self.modules[first] + (rest.partition(".")[0],)
 
 
 class Specs:
@@ -123,15 +122,23 @@ class Specs:
 
 def contracts(path):
     """What the contracts of a source file's public functions cite, each with the function's name."""
-    scope, function = Scope(), None
+    scope, function, open_braces = Scope(), None, 0
     for line in read_lines(path, "//")[0]:
-        if USE.match(line):
+        clause = CLAUSE.match(line)
+        if open_braces:
+            text = line
+        elif USE.match(line):
             scope.use(line)
-        elif re.search(r"\bfn \w+", line):
-            function = PUBLIC.match(line) and PUBLIC.match(line).group(1)
-        elif function and CONTRACT.match(line):
-            for target in scope.cited(CONTRACT.match(line).group(1)):
-                yield function, target
+            continue
+        elif clause:
+            text, open_braces = clause.group(1), 1
+        else:
+            if re.search(r"\bfn \w+", line):
+                function = PUBLIC.match(line) and PUBLIC.match(line).group(1)
+            continue
+        open_braces += text.count("{") - text.count("}")
+        for target in scope.cited(text) if function else ():
+            yield function, target
 
 
 def shown(target):
