@@ -13,9 +13,9 @@
  * it (flowpewter_build_levelled). The other calls look into an index by rank; and where one row gets other minutes, one
  * brings the totals up to date without a build (flowpewter_pull). docs/INDEX-FORMAT.md has examples, word by word.
  *
- * Link with target/staticlib/libflowpewter.a, which `rt staticlib flowpewter` makes. It is compiled for x86-64 Linux
- * (System V calls, any x86-64 processor, position-independent) and for nothing else; of the C library it takes memcpy,
- * memmove and memset alone.
+ * Link with crates/flowpewter/out/libflowpewter.a, which `rt lib --cpu=x86-64` makes in crates/flowpewter. It is
+ * compiled for x86-64 Linux (System V calls, any x86-64 processor, position-independent) and for nothing else; of the C
+ * library it takes memcpy, memmove and memset alone.
  *
  * Nothing is allocated, no state is kept, and any number of threads may call at once. Every call takes every argument:
  * what can't be done is refused by a number, and nothing is read or written outside the slices. What follows is all

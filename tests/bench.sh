@@ -4,7 +4,7 @@
 set -eu
 cd "$(dirname "$0")/.."
 export CARGO_TARGET_DIR="$PWD/target/cargo"
-rt staticlib flowpewter >/dev/null
+(cd crates/flowpewter && rt lib --cpu=x86-64) >/dev/null
 
 # as COMMAND: runs what root mustn't
 as() {

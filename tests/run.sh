@@ -5,8 +5,8 @@ set -eu
 cd "$(dirname "$0")/.."
 export CARGO_TARGET_DIR="$PWD/target/cargo"
 out=target/tests
-library=target/staticlib/libflowpewter.a
-rt staticlib flowpewter
+library=crates/flowpewter/out/libflowpewter.a
+(cd crates/flowpewter && rt lib --cpu=x86-64)
 mkdir -p "$out"
 
 cargo test --offline --release --manifest-path rust/Cargo.toml
@@ -59,8 +59,7 @@ size -A "$library" | awk '
         exit !(code > 0 && constants < 288)
     }'
 
-sh tests/unproved.sh
-target/unproved/numerals <examples/pump.txt >"$out/pump.unproved.out"
+sh tests/unproved.sh <examples/pump.txt >"$out/pump.unproved.out"
 same "the listing program without a proof and its listing" "$out/pump.unproved.out" examples/pump.out
 
 echo "tests: all passed"
