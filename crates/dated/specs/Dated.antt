@@ -21,7 +21,7 @@ use Rattle.paths.specs.Nodes.{regular}
 use Rattle.nodes.specs.Bodies.{body, running_totals}
 use Rattle.nodes.specs.Refusals.{refusal6, refusal10, refusal11}
 
--- the common days of two: `common-days`
+-- the common days of two: `common_days`
 abbrev pub common : Days → Days → Days
 common s t = record { first = max s.first t.first; last = min s.last t.last }
 
@@ -30,7 +30,7 @@ abbrev pub some_day : Days → Bool
 some_day s = not (first_after_last s)
 
 module _ (R : List Row) where
-  -- the common days of some days and of the rows of a path: `days-are`
+  -- the common days of some days and of the rows of a path: `days_are`
   abbrev pub days_of : Days → List ℕ → Days
   days_of s [] = s
   days_of s (x ∷ p) = days_of (common s (row R x).days) p
@@ -46,7 +46,7 @@ module _ (R : List Row) where
       abbrev pub DatedNode : List ℕ → Type 0
       DatedNode p = Regular R start depth p × ((d : ℕ) × CommonDay p d)
 
-      -- the nodes, in path order: `dated-is`, `dated-forest`
+      -- the nodes, in path order: `dated_is`, `dated_forest`
       unfoldable pub dated : List (List ℕ)
       dated = filter (λ p. some_day (days_of w p)) (regular R start depth)
 

@@ -1,7 +1,7 @@
 -- Demand 3 of paper 01, whole: any list of calls from the empty board, then any build on the board they left, over all paths, by default, of shortest placement or dated, or of any levelled list, then any
 -- navigation, sum and pull on what the build left; and the same of any build on any sound board. These are definitions, in the words of "What demand 3 compares"; that they hold is `guarantee`,
--- `sound-build`, `sound-default`, `sound-shortest`, `sound-dated` and `sound-pulls` in GuaranteeLaws. A build on any other board is refused: `unsound-build` in PathBuildLaws, `unsound-shortest` in ShortestBuildLaws,
--- `unsound-dated` in DatedBuildLaws. Assumes nothing.
+-- `sound_build`, `sound_default`, `sound_shortest`, `sound_dated` and `sound_pulls` in GuaranteeLaws. A build on any other board is refused: `unsound_build` in PathBuildLaws, `unsound_shortest` in ShortestBuildLaws,
+-- `unsound_dated` in DatedBuildLaws. Assumes nothing.
 use Rattle.std.specs.Prelude.{◌≡◌, true, List, length}
 use Rattle.board.specs.declared.Board.{Board}
 use Rattle.rows.specs.declared.Call.{Call}

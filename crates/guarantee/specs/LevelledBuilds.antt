@@ -26,7 +26,7 @@ module _ (s : List ℕ) (width : ℕ) where
         row = first_place;
         -- "Its parent is the longest shorter beginning that ends in a filled cell"
         parent = longest_shorter;
-        -- "its root rank is the parent's, or its own where there is none" (`root-as-parent` of crate levels): that of the shortest beginning that ends in a filled cell
+        -- "its root rank is the parent's, or its own where there is none" (`root_as_parent` of crate levels): that of the shortest beginning that ends in a filled cell
         root = shortest_beginning;
         -- "its flags are 0"
         Closing = λ p. ⊥;

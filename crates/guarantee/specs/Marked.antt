@@ -1,4 +1,4 @@
--- The marked cases M1 to M10 of paper 01 as one table, of calls on the empty board, builds on the board they left and navigation on the index; that they hold is `marked-cases` in MarkedLaws.
+-- The marked cases M1 to M10 of paper 01 as one table, of calls on the empty board, builds on the board they left and navigation on the index; that they hold is `marked_cases` in MarkedLaws.
 -- Assumes nothing: these are definitions.
 use Rattle.std.specs.Prelude.{◌≡◌, false, true, List, [], ◌∷◌, ◌++◌, map, ℕ, ℤ, pos, negsuc, replicate}
 use Rattle.lists.specs.Lists.{numbers}

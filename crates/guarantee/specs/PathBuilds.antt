@@ -31,7 +31,7 @@ module _ (R : List Row) (starts : Row → Bool) (depth : Depth) (o : Orphan) (es
   abbrev pub Closing : List ℕ → Type 0
   Closing p = (Regular R starts depth p × T (closes (joined R es) p)) ⊎ (AnyOrphanNode R starts es depth o p × T (orphan_closes (joined R es) o p))
 
-  -- there is one list of them in this order (`nodes-unique` of crate nodes)
+  -- there is one list of them in this order (`nodes_unique` of crate nodes)
   abbrev pub path_nodes : NodeKind
   path_nodes =
       record {
@@ -76,7 +76,7 @@ module _ (R : List Row) (code : ℕ) (depth : Depth) (starts : Row → Bool) whe
         (First ((orphan_of code ≡ 1) × ((x : ℕ) × Unreached R starts depth x)) 12 NoOther))))))
 
   pub record PathBuild (fits : Type 0) (answer : Built) (before index : List ℕ) (unwritten totals : List ℤ) : Type 0 where
-    -- the entries of islands: there are such rows for every build, and no others (`entries-joining`, `joining-unique` of crate nodes)
+    -- the entries of islands: there are such rows for every build, and no others (`entries_joining`, `joining_unique` of crate nodes)
     pub es : List ℕ
     pub entries : Joining R starts depth (orphan_choice (orphan_of code)) es
     pub build : Build (build_nodes es) (BuildRefusal es (length before) (length unwritten)) fits answer before index unwritten totals

@@ -15,11 +15,11 @@ on_first [] g = []
 on_first (x ∷ l) g = g x
 
 module _ (R : List Row) where
-  -- the paths that go on from the numeral of x by rows of a pool: `below-is` of EntryLaws
+  -- the paths that go on from the numeral of x by rows of a pool: `below_is` of EntryLaws
   unfoldable pub below_entry : List ℕ → ℕ → List (List ℕ)
   below_entry pool x = forest (num R) (par R) pool (suc (length R)) (num R x ∷ []) (next (num R) (par R) pool [] x)
 
-  -- a row of the pool whose numeral is reached from itself, as one of these paths ends in it: `ringed-is`
+  -- a row of the pool whose numeral is reached from itself, as one of these paths ends in it: `ringed_is`
   unfoldable pub ringed : List ℕ → ℕ → Bool
   ringed pool x = memb x pool && any (λ p. eqb (num R (last p)) (num R x)) (below_entry pool x)
 
@@ -27,7 +27,7 @@ module _ (R : List Row) where
   unfoldable pub ringed_rows : List ℕ → List ℕ
   ringed_rows pool = filter (ringed pool) (numbers 1 (length R))
 
-  -- the pool without the rows reached: `unreached-of`
+  -- the pool without the rows reached: `unreached_of_lem`
   unfoldable pub unreached_of : List ℕ → ℕ → List ℕ
   unreached_of pool x =
       let ends : List ℕ = map last (below_entry pool x) in
@@ -44,16 +44,16 @@ module _ (R : List Row) where
   entry_paths_from pool e (x ∷ es) = node e (below_entry pool x) ++ entry_paths_from (unreached_of pool x) (suc e) es
 
   module _ (start : Row → Bool) where
-    -- the rows of I at first: `islands-is` of EntryPathLaws
+    -- the rows of I at first: `islands_is` of EntryPathLaws
     unfoldable pub islands : List ℕ
     islands =
         let ends : List ℕ = map last (orphans R start None) in
         filter (λ x. not (memb x ends)) (orphan_rows R start None)
 
-    -- the rows whose numerals the entries take: `entries-entered` and `entered-unique` of EntryPathLaws
+    -- the rows whose numerals the entries take: `entries_entered` and `entered_unique` of EntryPathLaws
     unfoldable pub entries : List ℕ
     entries = entries_from (length R) islands
 
-    -- the paths that begin with an entry: `entry-paths-are` of EntryPathLaws
+    -- the paths that begin with an entry: `entry_paths_are` of EntryPathLaws
     unfoldable pub entry_paths : List (List ℕ)
     entry_paths = entry_paths_from islands (suc (length R)) entries

@@ -57,7 +57,7 @@ module _ (R : List Row) (start : Row → Bool) (es : List ℕ) where
   abbrev pub AnyEntryPath : List ℕ → Type 0
   AnyEntryPath p = (k : ℕ) × (k < length es) × EntryPath k p
 
-  -- es are the rows taken: at each step the request's, "until I is empty"; there are such rows (`entries-entered` of EntryPathLaws), and no others (`entered-unique`)
+  -- es are the rows taken: at each step the request's, "until I is empty"; there are such rows (`entries_entered` of EntryPathLaws), and no others (`entered_unique`)
   pub record Entered : Type 0 where
     pub taken : (k : ℕ) → k < length es → EntryRow (num R) (par R) (Island k) (get_or es k 0)
     pub done : (x : ℕ) → ¬ Island (length es) x

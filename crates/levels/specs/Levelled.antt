@@ -64,7 +64,7 @@ levelled_nodes sorted = nodes_after [] sorted
 abbrev pub longest_shorter : List ℕ → List ℕ
 longest_shorter p = last_node (filled_beginnings (init p))
 
--- the shortest beginning that ends in a filled cell: "its root rank is the parent's, or its own where there is none" is the law `root-as-parent` of LevelledLaws
+-- the shortest beginning that ends in a filled cell: "its root rank is the parent's, or its own where there is none" is the law `root_as_parent` of LevelledLaws
 abbrev pub shortest_beginning : List ℕ → List ℕ
 shortest_beginning p = get_or (filled_beginnings p) 0 []
 

@@ -35,7 +35,7 @@ module _ (S : List Row) where
       record { numeral = num S (last p); row = shown_row R (last p); size = tree_size whole p; parent = parent_rank whole p; root = root_rank whole p; level = length p; closing = closing; orphan = orphan }
 
 module _ (R : List Row) (start : Row → Bool) (depth : Depth) (o : Orphan) where
-  -- "the body of rank k is that of the k-th node": `body-field`, `body-regular`, `body-orphan` of BodyLaws
+  -- "the body of rank k is that of the k-th node": `body_field`, `body_regular`, `body_orphan` of BodyLaws
   unfoldable pub bodies : List Body
   bodies =
       let S : List Row = with_entries R start depth o in

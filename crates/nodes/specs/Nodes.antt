@@ -49,7 +49,7 @@ module _ (R : List Row) (start : Row → Bool) where
           ⊎ (((Regular R start depth p × Regular R start depth q) ⊎ ((OrphanNode R start depth o p × OrphanNode R start depth o q) ⊎ (EntryNode o p × EntryNode o q))) × Before (Sibling (joined R es)) p q))
 
   module _ (depth : Depth) where
-    -- the rows whose numerals the entries take: `entries-joining`, and no others: `joining-unique`
+    -- the rows whose numerals the entries take: `entries_joining`, and no others: `joining_unique`
     unfoldable pub entries_of : Orphan → List ℕ
     entries_of ignore = []
     entries_of error = []
@@ -60,13 +60,13 @@ module _ (R : List Row) (start : Row → Bool) where
     unfoldable pub with_entries : Orphan → List Row
     with_entries o = joined R (entries_of o)
 
-    -- the paths that begin with an entry: `entry-nodes-are`
+    -- the paths that begin with an entry: `entry_nodes_are`
     unfoldable pub entry_nodes : Orphan → List (List ℕ)
     entry_nodes ignore = []
     entry_nodes error = []
     entry_nodes adopt = adopted (starts R start) (without_depth depth (entry_paths R start))
     entry_nodes root = without_depth depth (entry_paths R start)
 
-    -- all nodes: `nodes-are`, in the papers' order: `nodes-ordered`; no other list is that: `nodes-unique`
+    -- all nodes: `nodes_are`, in the papers' order: `nodes_ordered`; no other list is that: `nodes_unique`
     unfoldable pub nodes : Orphan → List (List ℕ)
     nodes o = row_nodes R start depth o ++ entry_nodes o

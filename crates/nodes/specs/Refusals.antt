@@ -1,4 +1,4 @@
--- Paper 01, "Refusals in checking order", sentences 6 to 12, with islands in 8 as request 2.3 of paper 02 has it. The tests on lists are in the words of Paths and Islands in RefusalLaws (`some-top`, `some-island`, `no_start`, `some-unreached`).
+-- Paper 01, "Refusals in checking order", sentences 6 to 12, with islands in 8 as request 2.3 of paper 02 has it. The tests on lists are in the words of Paths and Islands in RefusalLaws (`some_top`, `some_island`, `no_start`, `some_unreached`).
 -- Assumes nothing: these are definitions.
 use Rattle.std.specs.Prelude.{Bool, true, false, cond, not, ◌&&◌, ◌||◌, List, [], ◌∷◌, ℕ, zero, suc, eqb, ltb, length}
 use Rattle.rows.specs.declared.Row.{Row}
@@ -28,7 +28,7 @@ abbrev pub is_empty : List ℕ → Bool
 is_empty [] = true
 is_empty (x ∷ l) = false
 
--- another node has this node's numeral: `shared-is` of RefusalLaws
+-- another node has this node's numeral: `shared_is` of RefusalLaws
 abbrev pub shared : List Body → Body → Bool
 shared bs b = ltb 1 (length (filter (λ (c : Body). eqb c.numeral b.numeral) bs))
 

@@ -8,7 +8,7 @@ use Rattle.table.specs.TableLayer.{column, row_column, child_column, next_column
 unfoldable pub outside_at : (row reached : List ℕ) → ℕ → Bool
 outside_at row reached p = eqb (get_or reached (get_or row p 0 - 1) 0) 0
 
--- 1 for such a row whose parent is no row's numeral: `parentPosition` has the first position with that numeral, else the number of positions
+-- 1 for such a row whose parent is no row's numeral: `parent_position` has the first position with that numeral, else the number of positions
 unfoldable pub top_at : (row reached parent_position : List ℕ) → ℕ → ℕ
 top_at row reached parent_position p = cond (outside_at row reached p && leb (length row) (get_or parent_position p 0)) 1 0
 

@@ -1,5 +1,5 @@
 -- A breadth-first search over things with keys: the first thing of each key is kept, in the order met; its laws are in BreadthLaws. With it the rows that end the kept paths, and the rows that stand below
--- another: `kept-forest` of KeptLaws says that the paths over these are the kept ones. Assumes nothing: these are definitions.
+-- another: `kept_forest` of KeptLaws says that the paths over these are the kept ones. Assumes nothing: these are definitions.
 use Rattle.std.specs.Prelude.{Bool, cond, not, ◌&&◌, List, [], ◌∷◌, ◌++◌, map, ℕ, zero, suc, length}
 use Rattle.lists.specs.Lists.{filter}
 use Rattle.rows.specs.declared.Row.{Row}

@@ -47,7 +47,7 @@ module _ (R : List Row) where
     abbrev pub paths_to : ℕ → List (List ℕ)
     paths_to n = filter (λ p. eqb (reached p) n) (regular R start None)
 
-    -- the kept paths, in path order: `shortest-is`, `shortest-forest`
+    -- the kept paths, in path order: `shortest_is`, `shortest_forest`
     unfoldable pub shortest : List (List ℕ)
     shortest = filter (λ p. same_path p (first_shortest (paths_to (reached p)))) (regular R start None)
 
