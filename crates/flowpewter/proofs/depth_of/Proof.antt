@@ -11,12 +11,12 @@ use Rattle.flowpewter.proofs.depth_of.Tie as tie
 use Rattle.flowpewter.proofs.depth_of.Reads as reads
 use Rattle.flowpewter.proofs.depth_of.Lts as lts
 
-returns : tie.Need-returns
+returns : tie.Need-returns-then-has_depth
 returns c =
-    let x = c.before.args in
-    ap (λ (z : ℤ). Limit z) (to_z-of_z {w = w32} c.before.ranges.depth) ∙ sym (ap (λ (b : Bool). cond b (Limit x.depth) None) c.if1.true)
+    let x = c.args in
+    ap (λ (z : ℤ). Limit z) (to_z-of_z {w = w32} c.ranges.depth) ∙ sym (ap (λ (b : Bool). cond b (Limit x.depth) None) c.if-has_depth.true)
 
-returns-2 : tie.Need-returns-2
+returns-2 : tie.Need-returns
 returns-2 c = search rules
 
 pub depth_of_spec : {M : Type 1} → statement M

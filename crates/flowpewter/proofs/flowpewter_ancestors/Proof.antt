@@ -15,16 +15,16 @@ use Rattle.climb.proofs.ancestors.Reads as ancestors-reads
 ancestors-requires : tie.Need-ancestors-requires
 ancestors-requires c κs = search rules
 
-same_length : tie.Need-same-length
+same_length : tie.Need-shape_of-out
 same_length c = search rules
 
 returns : tie.Need-returns
 returns c =
-    let e = c.before.before.before.before.before.before in
+    let e = c in
     let x = e.args in
     let lo = to_z-of_z {w = w32} e.ranges.lo in
     let hi = to_z-of_z {w = w32} e.ranges.hi in
-    let p = c.before.before.ancestors.ensures in (
+    let p = c.ancestors.ensures in (
       p.0
           ∙ ap (λ (z : ℤ). ancestors_answer x.index.now x.rank z (to_z w32 (of_z w32 x.hi)) x.out.now) lo
           ∙ ap (λ (z : ℤ). ancestors_answer x.index.now x.rank x.lo z x.out.now) hi,

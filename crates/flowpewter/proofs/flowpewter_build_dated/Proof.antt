@@ -20,41 +20,41 @@ use Rattle.flowpewter.proofs.depth_of.Reads as depth-of-reads
 use Rattle.flowpewter.proofs.start_of.Reads as start-of-reads
 
 -- src/lib.rt:182:9
-depth-of-requires : tie.Need-depth-of-requires
+depth-of-requires : tie.Need-depth_of-limit-requires
 depth-of-requires c κs = search rules
 
 -- src/lib.rt:183:9
-start-of-requires : tie.Need-start-of-requires
+start-of-requires : tie.Need-start_of-start-requires
 start-of-requires c κs = search rules
 
 -- src/lib.rt:188:5
-build-dated-requires : tie.Need-build-dated-requires
+build-dated-requires : tie.Need-build_dated-requires
 build-dated-requires c κs = search rules
 
 -- src/lib.rt:163:1
-same_length : tie.Need-same-length
+same_length : tie.Need-shape_of-index
 same_length c = search rules
 
 -- src/lib.rt:163:1
-same-length-2 : tie.Need-same-length-2
+same-length-2 : tie.Need-shape_of-totals
 same-length-2 c = search rules
 
 -- src/lib.rt:163:1
-same-length-3 : tie.Need-same-length-3
+same-length-3 : tie.Need-shape_of-days
 same-length-3 c = search rules
 
 -- src/lib.rt:163:1
 returns : tie.Need-returns
 returns c =
-    let x = c.before.before.before.before.before.before.before.before.before.before.before.before.before.before.args in
-    let w : Days = record { first = x.first-day; last = x.last-day } in
+    let x = c.args in
+    let w : Days = record { first = x.first_day; last = x.last_day } in
     let list = x.list.now in
     let index = x.index.now in
     let totals = x.totals.now in
     let days = x.days.now in
-    let depth = c.before.before.before.before.before.before.before.before.before.before.depth-of.ensures ∙ ap (λ (z : ℤ). depth_of x.has-depth z) (to_z-of_z {w = w32} c.before.before.before.before.before.before.before.before.before.before.before.before.before.before.ranges.depth) in
-    let start = c.before.before.before.before.before.before.before.before.before.start_of_lem.ensures in
-    let p = c.before.before.before.before.before.build-dated.ensures in (
+    let depth = c.depth_of-limit.ensures ∙ ap (λ (z : ℤ). depth_of x.has_depth z) (to_z-of_z {w = w32} c.ranges.depth) in
+    let start = c.start_of-start.ensures in
+    let p = c.build_dated.ensures in (
       p.0 ∙ ap₂ (λ (z : Depth) (s : Start). dated_built x.board x.code z (start_rule s list) w (length index) (length totals) (length days)) depth start,
       (
         p.1.0 ∙ ap₂ (λ (z : Depth) (s : Start). dated_index x.board x.code z (start_rule s list) w index (length totals) (length days)) depth start,

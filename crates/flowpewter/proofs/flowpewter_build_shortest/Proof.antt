@@ -8,26 +8,26 @@ use lib.ListN.{length}
 use Rattle.flowpewter.proofs.flowpewter_build_shortest.Statement.{statement}
 use Rattle.flowpewter.proofs.flowpewter_build_shortest.Tie as tie
 
-start-of-requires : tie.Need-start-of-requires
+start-of-requires : tie.Need-start_of-rule-requires
 start-of-requires c κs = search rules
 
-build-shortest-requires : tie.Need-build-shortest-requires
+build-shortest-requires : tie.Need-build_shortest-requires
 build-shortest-requires c κs = search rules
 
-same_length : tie.Need-same-length
+same_length : tie.Need-shape_of-index
 same_length c = search rules
 
-same-length-2 : tie.Need-same-length-2
+same-length-2 : tie.Need-shape_of-totals
 same-length-2 c = search rules
 
 returns : tie.Need-returns
 returns c =
-    let x = c.before.before.before.before.before.before.before.before.before.args in
+    let x = c.args in
     let list = x.list.now in
     let index = x.index.now in
     let totals = x.totals.now in
-    let start = c.before.before.before.before.before.before.start_of_lem.ensures in
-    let p = c.before.before.before.build-shortest.ensures in (
+    let start = c.start_of-rule.ensures in
+    let p = c.build_shortest.ensures in (
       p.0 ∙ ap (λ (z : Start). shortest_built x.board (start_rule z list) (length index) (length totals)) start,
       (
         p.1.0 ∙ ap (λ (z : Start). shortest_index x.board (start_rule z list) index (length totals)) start,

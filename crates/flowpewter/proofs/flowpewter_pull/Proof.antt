@@ -13,15 +13,15 @@ use Rattle.pull.proofs.pull.Reads as pull-reads
 pull-requires : tie.Need-pull-requires
 pull-requires c κs = search rules
 
-same_length : tie.Need-same-length
+same_length : tie.Need-shape_of-totals
 same_length c = search rules
 
 returns : tie.Need-returns
 returns c =
-    let e = c.before.before.before.before in
+    let e = c in
     let x = e.args in
     let given = to_z-of_z {w = w64} e.ranges.difference in
-    let p = c.before.pull.ensures in
+    let p = c.pull.ensures in
     (p.0 ∙ ap (pull_refusal x.index.now x.totals.now x.row) given, p.1 ∙ ap (pull_out x.index.now x.totals.now x.row) given)
 
 pub flowpewter_pull_spec : {M : Type 1} → statement M

@@ -16,8 +16,8 @@ remark-requires c κs = search rules
 
 returns : tie.Need-returns
 returns c =
-    let x = c.before.args in
-    c.remark.ensures ∙ ap (λ (z : ℤ). remark_of x.board x.k z) (to_z-of_z {w = w32} c.before.ranges.minutes)
+    let x = c.args in
+    c.remark.ensures ∙ ap (λ (z : ℤ). remark_of x.board x.k z) (to_z-of_z {w = w32} c.ranges.minutes)
 
 pub flowpewter_remark_spec : {M : Type 1} → statement M
 flowpewter_remark_spec = tie.close (tie.spec remark-requires returns)

@@ -12,31 +12,31 @@ use Rattle.image.proofs.body_at.Reads as body-at-reads
 use Rattle.image.proofs.size_at.Reads as size-at-reads
 use Rattle.spans.proofs.span_refusal.Reads as span-refusal-reads
 
-none : (c : tie.Else1) → span_refusal c.before.before.before.args.index.now c.before.before.before.args.rank ≡ 0
-none c = sym c.before.span-refusal.ensures ∙ c.if1.false
+none : (c : tie.Else-refusal-ne0) → span_refusal c.args.index.now c.args.rank ≡ 0
+none c = sym c.span_refusal-refusal.ensures ∙ c.if-refusal-ne0.false
 
-span-refusal-requires : tie.Need-span-refusal-requires
+span-refusal-requires : tie.Need-span_refusal-refusal-requires
 span-refusal-requires c κs = search rules
 
-returns : tie.Need-returns
+returns : tie.Need-returns-then-refusal-ne0
 unfolding span_of
-returns c = simp (c.before.span-refusal.ensures, ne_eqb (span_refusal c.before.before.before.args.index.now c.before.before.before.args.rank) 0 (λ z. c.if1.true (c.before.span-refusal.ensures ∙ z)))
+returns c = simp (c.span_refusal-refusal.ensures, ne_eqb (span_refusal c.args.index.now c.args.rank) 0 (λ z. c.if-refusal-ne0.true (c.span_refusal-refusal.ensures ∙ z)))
 
-size-at-requires : tie.Need-size-at-requires
+size-at-requires : tie.Need-size_at-size-requires
 size-at-requires c κs = search rules
 
-cast-size : tie.Need-overflow-cast-size
+cast-size : tie.Need-overflow_cast-size
 cast-size c = search rules
 
-body-at-requires : tie.Need-body-at-requires
+body-at-requires : tie.Need-body_at-requires
 body-at-requires c κs = search rules
 
-mul-t9 : tie.Need-overflow-mul-t9
+mul-t9 : tie.Need-overflow_mul-result
 mul-t9 c = search rules
 
-returns-2 : tie.Need-returns-2
+returns-2 : tie.Need-returns
 unfolding span_of
-returns-2 c = simp (eq-eqb _ 0 (none c.before.before), c.before.size-at.ensures, c.body-at.ensures)
+returns-2 c = simp (eq-eqb _ 0 (none c.before.before), c.size_at-size.ensures, c.body_at.ensures)
 
 pub flowpewter_span_spec : {M : Type 1} → statement M
 flowpewter_span_spec =
