@@ -41,6 +41,7 @@ example() {
 }
 
 example valve
+example correction
 example renewal
 example sheet
 

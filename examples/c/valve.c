@@ -1,6 +1,6 @@
 /* How many drawing minutes hang under numeral 40? A pump whose valve, numeral 40, is shown in three places, and a
- * gasket whose parent isn't drawn yet. And how many once the minutes of one part are corrected? Then the numeral list
- * beside figure 1, in which each numeral stands once, and the caption of two parts that a leader joins. */
+ * gasket whose parent isn't drawn yet. Then the numeral list beside figure 1, in which each numeral stands once, and
+ * the caption of two parts that a leader joins. */
 #include "flowpewter.h"
 #include <inttypes.h>
 #include <stdio.h>
@@ -14,25 +14,6 @@ static int refused(uint32_t refusal) {
 
 static uint32_t numeral_at(const uint32_t *index, uint32_t rank) {
     return index[FLOWPEWTER_BODY_AT(rank) + FLOWPEWTER_BODY_NUMERAL];
-}
-
-/* Prints the minutes under numeral 40, place by place and of all. Answers the refusal. */
-static uint32_t print_valves(const uint32_t *index, size_t index_len, const int64_t *totals, size_t totals_len) {
-    int64_t minutes = 0;
-    for (uint32_t rank = 1; rank <= index[0]; rank++) {
-        const uint32_t *body = index + FLOWPEWTER_BODY_AT(rank);
-        if (body[FLOWPEWTER_BODY_NUMERAL] == 40) {
-            const flowpewter_summed summed = flowpewter_subtree_sum(index, index_len, totals, totals_len, rank);
-            if (summed.refusal != 0) {
-                return summed.refusal;
-            }
-            printf("numeral 40 at rank %" PRIu32 ", level %" PRIu32 ": %" PRId64 " minutes\n", rank,
-                   body[FLOWPEWTER_BODY_LEVEL] & FLOWPEWTER_LEVEL_MASK, summed.sum);
-            minutes += summed.sum;
-        }
-    }
-    printf("%" PRId64 " drawing minutes hang under numeral 40\n", minutes);
-    return 0;
 }
 
 /* Names the smallest assembly that holds two parts, and the way up from the second. */
@@ -92,25 +73,20 @@ int main(void) {
     }
     printf("%" PRIu32 " nodes, %" PRIu32 " rows left over\n", built.nodes, built.left);
 
-    uint32_t refusal = print_valves(index, index_len, totals, totals_len);
-    if (refusal != 0) {
-        return refused(refusal);
+    int64_t minutes = 0;
+    for (uint32_t rank = 1; rank <= built.nodes; rank++) {
+        const uint32_t *body = index + FLOWPEWTER_BODY_AT(rank);
+        if (body[FLOWPEWTER_BODY_NUMERAL] == 40) {
+            flowpewter_summed summed = flowpewter_subtree_sum(index, index_len, totals, totals_len, rank);
+            if (summed.refusal != 0) {
+                return refused(summed.refusal);
+            }
+            printf("numeral 40 at rank %" PRIu32 ", level %" PRIu32 ": %" PRId64 " minutes\n", rank,
+                   body[FLOWPEWTER_BODY_LEVEL] & FLOWPEWTER_LEVEL_MASK, summed.sum);
+            minutes += summed.sum;
+        }
     }
-
-    /* The spring, row 7, in each of the three places: the totals are corrected without a build. */
-    const flowpewter_edited remarked = flowpewter_remark(board, 7, 11);
-    if (remarked.refusal != 0) {
-        return refused(remarked.refusal);
-    }
-    board = remarked.board;
-    printf("the spring takes 11 minutes, not 8:\n");
-    refusal = flowpewter_pull(index, index_len, totals, totals_len, 7, 11 - 8);
-    if (refusal == 0) {
-        refusal = print_valves(index, index_len, totals, totals_len);
-    }
-    if (refusal != 0) {
-        return refused(refusal);
-    }
+    printf("%" PRId64 " drawing minutes hang under numeral 40\n", minutes);
 
     /* By default no part is lost sight of: what hangs from nothing drawn is a root, and marked. */
     for (uint32_t rank = 1; rank <= built.nodes; rank++) {

@@ -1,11 +1,11 @@
 //! How many drawing minutes hang under numeral 40? A pump whose valve, numeral 40, is shown in three places, and a
-//! gasket whose parent isn't drawn yet. And how many once the minutes of one part are corrected? Then the numeral list
-//! beside figure 1, in which each numeral stands once, and the caption of two parts that a leader joins.
+//! gasket whose parent isn't drawn yet. Then the numeral list beside figure 1, in which each numeral stands once, and
+//! the caption of two parts that a leader joins.
 #![forbid(unsafe_code)]
 
 use flowpewter::{
-    bodies, build, build_shortest, index_len, meet, pull, span, subtree_sum, totals_len, Board,
-    Climber, Options, Orphan, Refusal, Row, Start, BODY, CONTENTS,
+    bodies, build, build_shortest, index_len, meet, span, subtree_sum, totals_len, Board, Climber,
+    Options, Orphan, Refusal, Row, Start, BODY, CONTENTS,
 };
 
 /// Parent, numeral, order on the sheet, drawing minutes.
@@ -21,20 +21,6 @@ const PUMP: [Row; 10] = [
     Row::new(42, 43, 1, -2), // seal, taken over from an older drawing
     Row::new(50, 51, 1, 20), // gasket of the flange, numeral 50, which isn't drawn yet
 ];
-
-/// Prints the minutes under numeral 40, place by place and of all.
-fn print_valves(index: &[u32], totals: &[i64], nodes: u32) -> Result<(), Refusal> {
-    let mut minutes = 0;
-    for (rank, body) in (1..).zip(bodies(&index[CONTENTS..][..BODY * nodes as usize])) {
-        if body.numeral == 40 {
-            let sum = subtree_sum(index, totals, rank)?;
-            println!("numeral 40 at rank {rank}, level {}: {sum} minutes", body.level);
-            minutes += sum;
-        }
-    }
-    println!("{minutes} drawing minutes hang under numeral 40");
-    Ok(())
-}
 
 /// Names the smallest assembly that holds two parts, and the way up from the second.
 fn caption(index: &[u32], a: u32, b: u32) -> Result<(), Refusal> {
@@ -65,16 +51,19 @@ fn main() -> Result<(), Refusal> {
     let built = build(&board, &Options::default(), &mut index, &mut totals)?;
     println!("{} nodes, {} rows left over", built.nodes, built.left);
 
-    print_valves(&index, &totals, built.nodes)?;
-
-    // The spring, row 7, in each of the three places: the totals are corrected without a build.
-    board.remark(7, 11)?;
-    println!("the spring takes 11 minutes, not 8:");
-    pull(&index, &mut totals, 7, 11 - 8)?;
-    print_valves(&index, &totals, built.nodes)?;
+    let mut minutes = 0;
+    let nodes = &index[CONTENTS..][..BODY * built.nodes as usize];
+    for (rank, body) in (1..).zip(bodies(nodes)) {
+        if body.numeral == 40 {
+            let sum = subtree_sum(&index, &totals, rank)?;
+            println!("numeral 40 at rank {rank}, level {}: {sum} minutes", body.level);
+            minutes += sum;
+        }
+    }
+    println!("{minutes} drawing minutes hang under numeral 40");
 
     // By default no part is lost sight of: what hangs from nothing drawn is a root, and marked.
-    for (rank, body) in (1..).zip(bodies(&index[CONTENTS..][..BODY * built.nodes as usize])) {
+    for (rank, body) in (1..).zip(bodies(nodes)) {
         if body.parent == 0 && body.orphan {
             println!("numeral {} at rank {rank}: its parent isn't drawn yet", body.numeral);
         }
