@@ -137,9 +137,7 @@ impl fmt::Display for Refusal {
             Refusal::UnreachedRow => "a row ends no regular path",
             Refusal::NoIndex => "the slice holds no index, or the totals are too few for it",
             Refusal::NoSuchRank => "the index has no such rank",
-            Refusal::DamagedIndex => {
-                "the index or the totals contradict themselves, or a total would come beyond 2^47"
-            }
+            Refusal::DamagedIndex => "the index or the totals contradict themselves",
             Refusal::ListTooLong => "the list found is longer than its slice",
             Refusal::NothingUndone => "there is no undone step to redo",
             Refusal::NotWholeLines => "the cells are no whole number of lines of 1 to 8 cells",
