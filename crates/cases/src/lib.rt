@@ -4,8 +4,8 @@
 ghost use Rattle.std.specs.Prelude.{◌≤◌};
 
 use board::Board;
-use libc::STDOUT_FILENO;
 use rows::Row;
+use std::io;
 
 // A table of contents of 8 words, then numeral, row number, tree size, parent rank, root rank, and level with the bits of closing (2^30) and orphan (2^31), for each of 9 nodes.
 pub const INDEX: [u32; 62] = [
@@ -34,21 +34,20 @@ pub fn changed(at: usize, total: i64) -> [i64; 10] {
     totals
 }
 
-pub fn say(text: &[u8]) {
-    io::write_all(STDOUT_FILENO, text);
+pub fn say(rt: &impl Print, text: &[u8]) -> io::Result<()> {
+    rt.write_all(text)
 }
 
 // Prints a space and a number.
-pub fn number(n: u32) {
-    say(b" ");
-    io::print_decimal(STDOUT_FILENO, n as u64);
+pub fn number(rt: &impl Print, n: u32) -> io::Result<()> {
+    print!(rt; " {n}")
 }
 
-pub fn answer(yes: bool) {
+pub fn answer(rt: &impl Print, yes: bool) -> io::Result<()> {
     if yes {
-        say(b" yes");
+        say(rt, b" yes")
     } else {
-        say(b" no");
+        say(rt, b" no")
     }
 }
 
@@ -94,14 +93,10 @@ pub fn same_row(a: Row, b: Row) -> bool {
 pub fn same_rows(a: Board, b: Board, n: usize) -> bool
     requires { n ≤ 1024 }
 {
-    let mut i: usize = 0;
-    while i < n {
-        let x = a.rows[i];
-        let y = b.rows[i];
-        if !same_row(x, y) {
+    for i in 0..n {
+        if !same_row(a.rows[i], b.rows[i]) {
             return false;
         }
-        i += 1;
     }
     true
 }

@@ -4,26 +4,37 @@
 
 ghost use Rattle.std.specs.Prelude.{◌<◌, ◌≤◌};
 
-fn report(name: &[u8], index: &[u32]) {
-    io::write_all(1, name);
+use cases::say;
+use std::io;
+
+fn report(rt: &impl Print, name: &[u8], index: &[u32]) -> io::Result<()> {
+    say(rt, name)?;
     if index_check::index_check(index) {
-        io::write_all(1, b": yes\n");
+        say(rt, b": yes\n")
     } else {
-        io::write_all(1, b": no\n");
+        say(rt, b": no\n")
     }
 }
 
 // The example with one word changed.
-fn report_changed(name: &[u8], at: usize, word: u32)
+fn report_changed(rt: &impl Print, name: &[u8], at: usize, word: u32) -> io::Result<()>
     requires { at < 62 }
 {
     let mut index = cases::INDEX;
     index[at] = word;
-    report(name, &index);
+    report(rt, name, &index)
 }
 
 // The example with the last four words of a rank's body changed, and the check word made right again.
-fn report_body(name: &[u8], rank: usize, size: u32, parent: u32, root: u32, word: u32)
+fn report_body(
+    rt: &impl Print,
+    name: &[u8],
+    rank: usize,
+    size: u32,
+    parent: u32,
+    root: u32,
+    word: u32,
+) -> io::Result<()>
     requires { (1 ≤ rank) × (rank ≤ 9) }
 {
     let mut index = cases::INDEX;
@@ -33,16 +44,16 @@ fn report_body(name: &[u8], rank: usize, size: u32, parent: u32, root: u32, word
     index[at + 4] = root;
     index[at + 5] = word;
     index[3] = image::add_words(&index[8..], 0);
-    report(name, &index);
+    report(rt, name, &index)
 }
 
 // The example without its last node, rank 8 with another size: no rank follows that a size above 1 would take in.
-fn report_eight(name: &[u8], size: u32) {
+fn report_eight(rt: &impl Print, name: &[u8], size: u32) -> io::Result<()> {
     let mut index = cases::INDEX;
     index[0] = 8;
     index[52] = size;
     index[3] = image::add_words(&index[8..56], 0);
-    report(name, &index);
+    report(rt, name, &index)
 }
 
 // A node of an index of 65,535 roots; or else of a chain of 65,534 nodes, each below the one before it, and a root.
@@ -86,72 +97,100 @@ fn fill(index: &mut [u32], roots: bool) {
     image::write_contents(index, 65535, check);
 }
 
-fn report_large() {
+fn report_large(rt: &impl Print) -> io::Result<()> {
     let mut index = [0u32; 393218];
     fill(&mut index, true);
-    report(b"65535 roots", &index);
+    report(rt, b"65535 roots", &index)?;
     fill(&mut index, false);
-    report(b"a chain of 65534 nodes and a root", &index);
+    report(rt, b"a chain of 65534 nodes and a root", &index)
 }
 
-fn main() {
-    report(b"example", &cases::INDEX);
-    report(b"one word less", &cases::INDEX[..61]);
-    report(b"no words", &cases::INDEX[..0]);
-    report_changed(b"word 1 is 7", 1, 7);
-    report_changed(b"word 2 is 7", 2, 7);
-    report_changed(b"10 nodes where 9 fit", 0, 10);
-    report_changed(b"65536 nodes", 0, 65536);
-    report_changed(b"check word too large by 1", 3, 441);
-    report_changed(b"word 4 is 1", 4, 1);
-    report_changed(b"word 7 is 1", 7, 1);
-    report_body(b"size 0", 9, 0, 0, 9, 2147483649);
-    report_body(b"root that ends after n", 9, 2, 0, 9, 2147483649);
-    report_body(b"size 4294967295", 9, 4294967295, 0, 9, 2147483649);
-    report_eight(b"8 nodes", 1);
-    report_eight(b"child that ends one after its parent's end", 2);
+fn main(rt: HostRuntime) -> io::Result<()> {
+    report(&rt, b"example", &cases::INDEX)?;
+    report(&rt, b"one word less", &cases::INDEX[..61])?;
+    report(&rt, b"no words", &cases::INDEX[..0])?;
+    report_changed(&rt, b"word 1 is 7", 1, 7)?;
+    report_changed(&rt, b"word 2 is 7", 2, 7)?;
+    report_changed(&rt, b"10 nodes where 9 fit", 0, 10)?;
+    report_changed(&rt, b"65536 nodes", 0, 65536)?;
+    report_changed(&rt, b"check word too large by 1", 3, 441)?;
+    report_changed(&rt, b"word 4 is 1", 4, 1)?;
+    report_changed(&rt, b"word 7 is 1", 7, 1)?;
+    report_body(&rt, b"size 0", 9, 0, 0, 9, 2147483649)?;
+    report_body(&rt, b"root that ends after n", 9, 2, 0, 9, 2147483649)?;
+    report_body(&rt, b"size 4294967295", 9, 4294967295, 0, 9, 2147483649)?;
+    report_eight(&rt, b"8 nodes", 1)?;
+    report_eight(&rt, b"child that ends one after its parent's end", 2)?;
     report_body(
+        &rt,
         b"parent whose interval doesn't contain the rank",
         9,
         1,
         8,
         1,
         2147483653,
-    );
-    report_body(b"parent that isn't the largest", 8, 1, 1, 1, 1073741826);
-    report_body(b"parent 0 below a node", 8, 1, 0, 8, 1073741825);
-    report_body(b"parent 4294967295", 9, 1, 4294967295, 9, 2147483649);
-    report_body(b"root with level 0", 9, 1, 0, 9, 2147483648);
-    report_body(b"root with level 2", 9, 1, 0, 9, 2147483650);
-    report_body(b"root with level 65535", 9, 1, 0, 9, 2147549183);
-    report_body(b"child two levels below its parent", 8, 1, 7, 1, 1073741829);
-    report_body(b"child with its parent's level", 8, 1, 7, 1, 1073741827);
+    )?;
     report_body(
+        &rt,
+        b"parent that isn't the largest",
+        8,
+        1,
+        1,
+        1,
+        1073741826,
+    )?;
+    report_body(&rt, b"parent 0 below a node", 8, 1, 0, 8, 1073741825)?;
+    report_body(&rt, b"parent 4294967295", 9, 1, 4294967295, 9, 2147483649)?;
+    report_body(&rt, b"root with level 0", 9, 1, 0, 9, 2147483648)?;
+    report_body(&rt, b"root with level 2", 9, 1, 0, 9, 2147483650)?;
+    report_body(&rt, b"root with level 65535", 9, 1, 0, 9, 2147549183)?;
+    report_body(
+        &rt,
+        b"child two levels below its parent",
+        8,
+        1,
+        7,
+        1,
+        1073741829,
+    )?;
+    report_body(
+        &rt,
+        b"child with its parent's level",
+        8,
+        1,
+        7,
+        1,
+        1073741827,
+    )?;
+    report_body(
+        &rt,
         b"child with a level less than its parent's",
         8,
         1,
         7,
         1,
         1073741826,
-    );
+    )?;
     report_body(
+        &rt,
         b"root with another's rank as root rank",
         9,
         1,
         0,
         1,
         2147483649,
-    );
+    )?;
     report_body(
+        &rt,
         b"child with its own rank as root rank",
         8,
         1,
         7,
         8,
         1073741828,
-    );
-    report_body(b"bit 16", 9, 1, 0, 9, 2147549185);
-    report_body(b"bit 29", 9, 1, 0, 9, 2684354561);
-    report_body(b"bits 30 and 31", 9, 1, 0, 9, 3221225473);
-    report_large();
+    )?;
+    report_body(&rt, b"bit 16", 9, 1, 0, 9, 2147549185)?;
+    report_body(&rt, b"bit 29", 9, 1, 0, 9, 2684354561)?;
+    report_body(&rt, b"bits 30 and 31", 9, 1, 0, 9, 3221225473)?;
+    report_large(&rt)
 }

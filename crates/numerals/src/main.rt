@@ -3,12 +3,14 @@
 
 use options::Depth;
 use request::Start;
+use std::io;
 
 // The index holds 2,700 nodes: 8 words, then 6 for each node; the totals are one more than the nodes.
-fn main() {
-    let load = streams::read_all();
-    if streams::print_wrong(load) {
-        return;
+fn main(rt: HostRuntime) -> io::Result<()> {
+    let mut out = rt.stdout();
+    let load = streams::read_all(&mut rt.stdin());
+    if streams::print_wrong(&mut out, &load)? {
+        return Ok(());
     }
     let board = load.board;
     let unread = [0u32; 1];
@@ -24,8 +26,7 @@ fn main() {
         &mut totals,
     );
     if built.refusal != 0 {
-        streams::print_refusal(built.refusal);
-        return;
+        return streams::print_refusal(&mut out, built.refusal);
     }
-    streams::print_listing(&index, &totals, built.nodes);
+    streams::print_listing(&mut out, &index, &totals, built.nodes)
 }

@@ -1,13 +1,14 @@
 // Standard input and output of the listing program: thin loops over proved functions on slices.
 #![tactic(auto)]
 
-ghost use Rattle.std.specs.Prelude.{◌≡◌};
+ghost use Rattle.std.specs.Prelude.{◌≡◌, IfOk};
 ghost use Rattle.listing.specs.Loading.{stopped};
 ghost use Rattle.streams.specs.Reading.{OfText};
 ghost use Rattle.streams.specs.ReadingLayer.{Fed};
 
-use libc::{STDIN_FILENO, STDOUT_FILENO};
 use listing::Load;
+use std::io;
+use std::io::{Read, Write};
 
 // A load, and whether the input has ended.
 #[derive(Clone, Copy)]
@@ -17,37 +18,38 @@ struct Reading {
 }
 
 // Reads once. A read that fails counts as the end of the input.
-fn read_some(load: Load) -> Reading
+fn read_some<R: Read>(input: &mut R, load: Load) -> Reading
     ensures { Fed load result.load }
 {
-    let mut buf = io::buffer();
-    let got = libc::read(STDIN_FILENO, &mut buf);
-    if got <= 0 {
-        return Reading { ended: true, load };
-    }
-    let n = io::count(got, &buf);
-    let next = listing::feed(load, &buf[..n]);
-    Reading {
-        ended: false,
-        load: next,
+    let mut buf = [0u8; 4096];
+    match input.read(&mut buf) {
+        Ok(n) => {
+            if n == 0 {
+                return Reading { ended: true, load };
+            }
+            let next = listing::feed(load, &buf[..n]);
+            Reading {
+                ended: false,
+                load: next,
+            }
+        }
+        Err(_) => Reading { ended: true, load },
     }
 }
 
 // Reads the input to its end, or to the first thing that is wrong.
-pub fn read_all() -> Load
+pub fn read_all<R: Read>(input: &mut R) -> Load
     ensures { OfText result }
 {
     let mut now = Load::start();
-    let mut turns = u64::MAX;
-    while turns > 0 {
-        turns -= 1;
+    for _ in 0..u64::MAX {
         if now.bad {
             return now;
         }
         if now.refusal != 0 {
             return now;
         }
-        let reading = read_some(now);
+        let reading = read_some(input, now);
         let next = reading.load;
         if reading.ended {
             return next.end();
@@ -58,50 +60,47 @@ pub fn read_all() -> Load
 }
 
 // Prints `refused`, a space and a refusal's number.
-pub fn print_refusal(refusal: u32) {
-    io::write_all(STDOUT_FILENO, b"refused ");
-    io::print_decimal(STDOUT_FILENO, refusal as u64);
-    io::write_all(STDOUT_FILENO, b"\n");
+pub fn print_refusal<W: Write>(out: &mut W, refusal: u32) -> io::Result<()> {
+    writeln!(out, "refused {refusal}")
 }
 
 // Prints `bad line`, a space and a line's number.
-fn print_bad_line(line: u64) {
-    io::write_all(STDOUT_FILENO, b"bad line ");
-    io::print_decimal(STDOUT_FILENO, line);
-    io::write_all(STDOUT_FILENO, b"\n");
+fn print_bad_line<W: Write>(out: &mut W, line: u64) -> io::Result<()> {
+    writeln!(out, "bad line {line}")
 }
 
 // Prints what is wrong with a load and answers true, or answers false.
-pub fn print_wrong(load: Load) -> bool
-    ensures { result ≡ stopped load }
+pub fn print_wrong<W: Write>(out: &mut W, load: &Load) -> io::Result<bool>
+    ensures { IfOk result (λ wrong. wrong ≡ stopped load.now) }
 {
     if load.bad {
-        print_bad_line(load.line);
-        return true;
+        print_bad_line(out, load.line)?;
+        return Ok(true);
     }
     if load.refusal != 0 {
-        print_refusal(load.refusal);
-        return true;
+        print_refusal(out, load.refusal)?;
+        return Ok(true);
     }
-    false
+    Ok(false)
 }
 
-fn print_node(index: &[u32], totals: &[i64], rank: u32) {
+fn print_node<W: Write>(out: &mut W, index: &[u32], totals: &[i64], rank: u32) -> io::Result<()> {
     let line = printing::line(listing::columns(index, totals, rank));
     let bytes = line.bytes;
     let from = line.from;
-    io::write_all(STDOUT_FILENO, &bytes[from..]);
+    out.write_all(&bytes[from..])
 }
 
 // Prints one header line, then a line for each of the n nodes of an index.
-pub fn print_listing(index: &[u32], totals: &[i64], n: u32) {
-    io::write_all(
-        STDOUT_FILENO,
-        b"rank size parent level root cycle orphan id sum\n",
-    );
-    let mut rank = 0;
-    while rank < n {
-        rank += 1;
-        print_node(index, totals, rank);
+pub fn print_listing<W: Write>(
+    out: &mut W,
+    index: &[u32],
+    totals: &[i64],
+    n: u32,
+) -> io::Result<()> {
+    out.write_all(b"rank size parent level root cycle orphan id sum\n")?;
+    for rank in 1..=n {
+        print_node(out, index, totals, rank)?;
     }
+    Ok(())
 }
