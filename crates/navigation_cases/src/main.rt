@@ -5,7 +5,7 @@ use cases::{changed, damaged};
 use std::io;
 
 fn say(rt: &impl Print, text: &[u8]) -> io::Result<()> {
-    say(rt, text)
+    rt.write_all(text)
 }
 
 fn number(rt: &impl Print, n: u64) -> io::Result<()> {
