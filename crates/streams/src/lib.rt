@@ -1,10 +1,14 @@
-// Standard input and output of the listing program: thin loops over proved functions on slices.
+// Input and output of the listing program: thin loops over proved functions on slices.
 #![tactic(auto)]
 
-ghost use Rattle.std.specs.Prelude.{◌≡◌, IfOk};
+ghost use Rattle.std.specs.Prelude.{◌≡◌, IfOk, OnOk};
+ghost use Rattle.std.specs.Io.KnownBytes.{Appends};
+ghost use Rattle.printing.specs.Printed.{line_text};
 ghost use Rattle.listing.specs.Loading.{stopped};
-ghost use Rattle.streams.specs.Reading.{OfText};
-ghost use Rattle.streams.specs.ReadingLayer.{Fed};
+ghost use Rattle.listing.specs.Nodes.{columns_of};
+ghost use Rattle.streams.specs.Reading.{OfText, ReadFrom};
+ghost use Rattle.streams.specs.ReadingLayer.{Fed, FedFrom};
+ghost use Rattle.streams.specs.Writing.{refusal_text, bad_line_text, wrong_text, listing_text};
 
 use listing::Load;
 use std::io;
@@ -19,7 +23,8 @@ struct Reading {
 
 // Reads once. A read that fails counts as the end of the input.
 fn read_some<R: Read>(input: &mut R, load: Load) -> Reading
-    ensures { Fed load result.load }
+    ensures fed { Fed load result.load }
+    ensures given { FedFrom (R.remaining input.old) (R.remaining input.new) load result.load }
 {
     let mut buf = [0u8; 4096];
     match input.read(&mut buf) {
@@ -39,7 +44,8 @@ fn read_some<R: Read>(input: &mut R, load: Load) -> Reading
 
 // Reads the input to its end, or to the first thing that is wrong.
 pub fn read_all<R: Read>(input: &mut R) -> Load
-    ensures { OfText result }
+    ensures of_text { OfText result }
+    ensures given { ReadFrom (R.remaining input.old) (R.remaining input.new) result }
 {
     let mut now = Load::start();
     for _ in 0..u64::MAX {
@@ -60,18 +66,23 @@ pub fn read_all<R: Read>(input: &mut R) -> Load
 }
 
 // Prints `refused`, a space and a refusal's number.
-pub fn print_refusal<W: Write>(out: &mut W, refusal: u32) -> io::Result<()> {
+pub fn print_refusal<W: Write>(out: &mut W, refusal: u32) -> io::Result<()>
+    ensures { OnOk result (Appends (W.contents out.old) (W.contents out.new) (refusal_text refusal)) }
+{
     writeln!(out, "refused {refusal}")
 }
 
 // Prints `bad line`, a space and a line's number.
-fn print_bad_line<W: Write>(out: &mut W, line: u64) -> io::Result<()> {
+fn print_bad_line<W: Write>(out: &mut W, line: u64) -> io::Result<()>
+    ensures { OnOk result (Appends (W.contents out.old) (W.contents out.new) (bad_line_text line)) }
+{
     writeln!(out, "bad line {line}")
 }
 
 // Prints what is wrong with a load and answers true, or answers false.
 pub fn print_wrong<W: Write>(out: &mut W, load: &Load) -> io::Result<bool>
-    ensures { IfOk result (λ wrong. wrong ≡ stopped load.now) }
+    ensures wrong { IfOk result (λ wrong. wrong ≡ stopped load.now) }
+    ensures text { OnOk result (Appends (W.contents out.old) (W.contents out.new) (wrong_text load.now)) }
 {
     if load.bad {
         print_bad_line(out, load.line)?;
@@ -84,7 +95,9 @@ pub fn print_wrong<W: Write>(out: &mut W, load: &Load) -> io::Result<bool>
     Ok(false)
 }
 
-fn print_node<W: Write>(out: &mut W, index: &[u32], totals: &[i64], rank: u32) -> io::Result<()> {
+fn print_node<W: Write>(out: &mut W, index: &[u32], totals: &[i64], rank: u32) -> io::Result<()>
+    ensures { OnOk result (Appends (W.contents out.old) (W.contents out.new) (line_text (columns_of index.now totals.now rank))) }
+{
     let line = printing::line(listing::columns(index, totals, rank));
     let bytes = line.bytes;
     let from = line.from;
@@ -92,15 +105,12 @@ fn print_node<W: Write>(out: &mut W, index: &[u32], totals: &[i64], rank: u32) -
 }
 
 // Prints one header line, then a line for each of the n nodes of an index.
-pub fn print_listing<W: Write>(
-    out: &mut W,
-    index: &[u32],
-    totals: &[i64],
-    n: u32,
-) -> io::Result<()> {
+pub fn print_listing<W: Write>(out: &mut W, index: &[u32], totals: &[i64], n: u32) -> io::Result<()>
+    ensures { OnOk result (Appends (W.contents out.old) (W.contents out.new) (listing_text index.now totals.now n)) }
+{
     out.write_all(b"rank size parent level root cycle orphan id sum\n")?;
-    for rank in 1..=n {
-        print_node(out, index, totals, rank)?;
+    for before in 0..n {
+        print_node(out, index, totals, before + 1)?;
     }
     Ok(())
 }
