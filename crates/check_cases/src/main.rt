@@ -86,12 +86,10 @@ fn node(rank: u32, roots: bool) -> image::Body
 
 fn fill(index: &mut [u32], roots: bool) {
     let mut check: u32 = 0;
-    let mut rank: u32 = 0;
-    while rank < 65535 {
-        let at = image::bodies_end(rank);
-        rank += 1;
+    for before in 0..65535u32 {
+        let at = image::bodies_end(before);
         if at <= index.len() {
-            check = image::write_body(&mut index[at..], node(rank, roots), check);
+            check = image::write_body(&mut index[at..], node(before + 1, roots), check);
         }
     }
     image::write_contents(index, 65535, check);
