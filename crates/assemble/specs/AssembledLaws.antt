@@ -19,12 +19,12 @@ use Rattle.nodes.specs.Nodes.{entries_of, nodes}
 use Rattle.nodes.specs.Bodies.{bodies, left_of}
 use Rattle.built.specs.Room.{refusal9}
 use Rattle.nodes.specs.Refusals.{orphan_choice, is_empty, refusal6, refusal7, refusal8, refusal10, refusal11, refusal12, refusal_of}
-use Rattle.paths.specs.SiblingLaws.{sorted_is}
-use Rattle.nodes.specs.BodyLaws.{regular_rows, bodies_length, totals_bodies, left_bodies}
-use Rattle.nodes.specs.BodyWalkLaws.{bodies_error}
-use Rattle.nodes.specs.EntryRefusalLaws.{entry_shares}
-use Rattle.nodes.specs.LeftLaws.{accepted_leaves_none}
-use Rattle.nodes.specs.BoundLaws.{bodies_bounded, numeral_of, named}
+use Rattle.paths.proofs.SiblingLaws.{sorted_is}
+use Rattle.nodes.proofs.BodyLaws.{regular_rows, bodies_length, totals_bodies, left_bodies}
+use Rattle.nodes.proofs.BodyWalkLaws.{bodies_error}
+use Rattle.nodes.proofs.EntryRefusalLaws.{entry_shares}
+use Rattle.nodes.proofs.LeftLaws.{accepted_leaves_none}
+use Rattle.nodes.proofs.BoundLaws.{bodies_bounded, numeral_of, named}
 use Rattle.built.specs.declared.Built.{Built}
 use Rattle.request.specs.Build.{answer_of}
 use Rattle.built.specs.RefusedLayer.{refused_by}

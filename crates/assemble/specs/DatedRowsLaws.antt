@@ -22,10 +22,10 @@ use Rattle.forest.specs.Nodes.{last}
 use Rattle.paths.specs.Rows.{num}
 use Rattle.paths.specs.Paths.{closes}
 use Rattle.nodes.specs.Bodies.{body}
-use Rattle.nodes.specs.BodyLaws.{shown_row_lem}
+use Rattle.nodes.proofs.BodyLaws.{shown_row_lem}
 use Rattle.nodes.specs.Refusals.{refusal10, refusal11}
 use Rattle.dated.specs.Dated.{dated, dated_bodies, node_days, dated_refusal9}
-use Rattle.dated.specs.DatedLaws.{dated_is, dated_row, bodies_are, bodies_length, left_bodies, totals_bodies, node_days_length}
+use Rattle.dated.proofs.DatedLaws.{dated_is, dated_row, bodies_are, bodies_length, left_bodies, totals_bodies, node_days_length}
 use Rattle.dated.specs.OutcomeLayer.{dated_outcome}
 use Rattle.ordering.specs.OrderingLayer.{spans_of}
 use Rattle.dated_walk.specs.DatedWalkLayer.{KeptFrom}

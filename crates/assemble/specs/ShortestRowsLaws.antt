@@ -13,10 +13,10 @@ use Rattle.options.specs.declared.Choice.{Choice}
 use Rattle.forest.specs.Nodes.{last}
 use Rattle.paths.specs.Rows.{num}
 use Rattle.nodes.specs.Bodies.{body}
-use Rattle.nodes.specs.BodyLaws.{shown_row_lem}
+use Rattle.nodes.proofs.BodyLaws.{shown_row_lem}
 use Rattle.shortest.specs.Shortest.{shortest, shortest_bodies}
 use Rattle.shortest.specs.OutcomeLayer.{shortest_outcome}
-use Rattle.shortest.specs.ShortestLaws.{shortest_is, kept_row, bodies_length, left_bodies, totals_bodies}
+use Rattle.shortest.proofs.ShortestLaws.{shortest_is, kept_row, bodies_length, left_bodies, totals_bodies}
 use Rattle.built.specs.declared.Built.{Built}
 use Rattle.built.specs.Room.{refusal9}
 use Rattle.built.specs.RefusedLayer.{refused_by}

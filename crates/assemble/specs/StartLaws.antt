@@ -15,13 +15,13 @@ use Rattle.options.specs.declared.Depth.{Depth}
 use Rattle.options.specs.declared.Depth.TheVariants.{None}
 use Rattle.options.specs.Options.{level_limit}
 use Rattle.paths.specs.Forest.{memb, forest}
-use Rattle.paths.specs.ForestLaws.{forest_nil}
+use Rattle.paths.proofs.ForestLaws.{forest_nil}
 use Rattle.paths.specs.Rows.{row, num, par}
 use Rattle.paths.specs.Paths.{last}
 use Rattle.paths.specs.Nodes.{sorted, starts, regular, orphan_rows, no_parent, tops}
 use Rattle.islands.specs.Entries.{islands}
 use Rattle.nodes.specs.Refusals.{is_empty, refusal8}
-use Rattle.nodes.specs.RefusalLaws.{some_orphan}
+use Rattle.nodes.proofs.RefusalLaws.{some_orphan}
 use Rattle.links.specs.PreparedLayer.{Prepared, StartFlags}
 use Rattle.table.specs.TableLayer.{row_column}
 use Rattle.refusals.specs.TestsLayer.{start_at, lacks_start}

@@ -1,4 +1,2 @@
 pub mod Dated
 pub mod OutcomeLayer
-pub mod DatedLaws
-pub mod DatedCases

@@ -26,7 +26,7 @@ use Rattle.paths.specs.EmitLayer.{mk_body}
 use Rattle.paths.specs.PrunedLayer.{emit_pruned}
 use Rattle.forest.specs.Nodes.{last, parent_rank}
 use Rattle.nodes.specs.Bodies.{body}
-use Rattle.nodes.specs.BodyLaws.{shown_row_lem}
+use Rattle.nodes.proofs.BodyLaws.{shown_row_lem}
 use Rattle.table.specs.TableLayer.{row_column, child_column, flag_column}
 use Rattle.links.specs.PreparedLayer.{Prepared, StartFlags}
 use Rattle.walk.specs.declared.Progress.{Progress}
@@ -35,7 +35,7 @@ use Rattle.walk.specs.WalkLaws.{clear_marked}
 use Rattle.enumerate.specs.OrphanLaws.{row_count, prepared_listed}
 use Rattle.enumerate.specs.EnumerateLaws.{all_starts}
 use Rattle.dated.specs.Dated.{common, some_day, days_of, dated, dated_bodies, node_days}
-use Rattle.dated.specs.DatedLaws.{dated_walk, dated_is, dated_row, bodies_are, bodies_length, node_days_length, node_days_at, days_pass}
+use Rattle.dated.proofs.DatedLaws.{dated_walk, dated_is, dated_row, bodies_are, bodies_length, node_days_length, node_days_at, days_pass}
 use Rattle.dated_walk.specs.DatedWalkLayer.{word_days, cut}
 use Rattle.ordering.specs.OrderingLayer.{spans_of}
 use Rattle.dated_nodes.specs.DatedNodesLayer.{DaysPass, day_pairs}

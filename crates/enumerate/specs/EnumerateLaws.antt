@@ -23,10 +23,10 @@ use Rattle.paths.specs.Paths.{last, adopt, root}
 use Rattle.paths.specs.Nodes.{sorted, starts, regular, orphan_rows, tops}
 use Rattle.paths.specs.EmitLayer.{emit, mk_body}
 use Rattle.nodes.specs.Bodies.{bodies}
-use Rattle.paths.specs.EmitLaws.{emit_nil}
-use Rattle.nodes.specs.BodyWalkLaws.{bodies_ignore, bodies_error, bodies_root}
-use Rattle.nodes.specs.AdoptWalkLaws.{bodies_adopt, bodies_adopt_none}
-use Rattle.nodes.specs.BodyLaws.{regular_rows}
+use Rattle.paths.proofs.EmitLaws.{emit_nil}
+use Rattle.nodes.proofs.BodyWalkLaws.{bodies_ignore, bodies_error, bodies_root}
+use Rattle.nodes.proofs.AdoptWalkLaws.{bodies_adopt, bodies_adopt_none}
+use Rattle.nodes.proofs.BodyLaws.{regular_rows}
 use Rattle.nodes.specs.Refusals.{orphan_choice}
 use Rattle.table.specs.TableLayer.{row_column, child_column, flag_column}
 use Rattle.table.specs.TableLaws.{column_length}

@@ -12,18 +12,18 @@ use Rattle.rows.specs.declared.Row.{Row}
 use Rattle.image.specs.declared.Body.{Body}
 use Rattle.options.specs.declared.Depth.TheVariants.{None}
 use Rattle.paths.specs.Forest.{memb}
-use Rattle.paths.specs.ForestLaws.{memb_in, memb_out}
+use Rattle.paths.proofs.ForestLaws.{memb_in, memb_out}
 use Rattle.paths.specs.Rows.{num, par, RowOf}
 use Rattle.paths.specs.Paths.{last, Unreached}
 use Rattle.paths.specs.Nodes.{sorted, regular, orphan_rows, tops, orphans}
 use Rattle.paths.specs.EmitLayer.{mk_body}
-use Rattle.paths.specs.EmitLaws.{emit_rows}
-use Rattle.paths.specs.SiblingLaws.{sorted_is}
-use Rattle.paths.specs.PathLaws.{ends_is, orphans_is}
-use Rattle.paths.specs.NodeLaws.{rows_all, last_in}
+use Rattle.paths.proofs.EmitLaws.{emit_rows}
+use Rattle.paths.proofs.SiblingLaws.{sorted_is}
+use Rattle.paths.proofs.PathLaws.{ends_is, orphans_is}
+use Rattle.paths.proofs.NodeLaws.{rows_all, last_in}
 use Rattle.islands.specs.Entries.{islands, entries}
 use Rattle.islands.specs.EntryLayer.{entry_walks}
-use Rattle.islands.specs.EntryLaws.{island_out, islands_good, entries_unique}
+use Rattle.islands.proofs.EntryLaws.{island_out, islands_good, entries_unique}
 use Rattle.passes.specs.PassesLayer.{rows_from, Named, reached_flags, marked_by}
 use Rattle.passes.specs.PassesLaws.{marked_at, marked_length, marked_zeros, rows_from_first, rows_named, rows_written}
 use Rattle.links.specs.PreparedLayer.{Prepared, WithNumerals}

@@ -27,7 +27,7 @@ use Rattle.image.specs.ImageLayer.{HoldsImage}
 use Rattle.options.specs.declared.Choice.{Choice}
 use Rattle.paths.specs.Forest.{memb}
 use Rattle.paths.specs.Rows.{row as boardRow, num, RowOf}
-use Rattle.paths.specs.SiblingLaws.{sorted_is, sorted_distinct}
+use Rattle.paths.proofs.SiblingLaws.{sorted_is, sorted_distinct}
 use Rattle.nodes.specs.Refusals.{shared, refusal10, refusal11}
 use Rattle.passes.specs.PassesLayer.{Named, NamedOrEntry, RowsOnce, ByRow, ClassesByRow, CountsClear, ClassesCounted, rows_to, reached_flags, any_entry, any_closing, class_at, classes_to, class_counts, asked_at, shares_at, any_shared, minutes_at, totals_to}
 use Rattle.table.specs.TableLayer.{row_column, class_column, child_column, next_column}

@@ -1,5 +1,4 @@
 pub mod Builds
-pub mod KindLaws
 pub mod LevelledBuilds
 pub mod ShortestBuilds
 pub mod DatedBuilds
@@ -8,18 +7,4 @@ pub mod DefaultBuilds
 pub mod DaysUnread
 pub mod Pulls
 pub mod Guarantee
-pub mod BodyLaws
-pub mod SentenceLaws
-pub mod MinutesLaws
-pub mod LevelledBuildLaws
-pub mod ShortestBuildLaws
-pub mod DatedBuildLaws
-pub mod PathBuildLaws
-pub mod DefaultBuildLaws
-pub mod SameNodesLaws
-pub mod DaysUnreadLaws
-pub mod PullLaws
-pub mod GuaranteeLaws
-pub mod BuiltIndexLaws
 pub mod Marked
-pub mod MarkedLaws

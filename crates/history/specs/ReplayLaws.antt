@@ -13,7 +13,7 @@ use Rattle.machine.specs.Calls.{edits, final}
 use Rattle.history.specs.Encoding.{kind_at, call_at, first_calls, decoded, all_known, replay_refusal, replayed_of, refusals_of}
 use Rattle.history.specs.declared.Replayed.{Replayed}
 use Rattle.machine.specs.Machine.{answers, after, start}
-use Rattle.machine.specs.SimulationLaws.{final_refusals, final_rows, final_kept, final_undone, final_sound}
+use Rattle.machine.proofs.SimulationLaws.{final_refusals, final_rows, final_kept, final_undone, final_sound}
 
 -- ---- one more call at the end
 

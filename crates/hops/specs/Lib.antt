@@ -1,5 +1,2 @@
 pub mod Hops
-pub mod HopLaws
 pub mod HopsLayer
-pub mod AcceptedLaws
-pub mod HopCases

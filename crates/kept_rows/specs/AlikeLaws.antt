@@ -14,7 +14,7 @@ use Rattle.paths.specs.Rows.{num}
 use Rattle.paths.specs.Nodes.{starts}
 use Rattle.shortest.specs.BreadthLayer.{fresh, spread, rows_under, kept_starts, kept_rows}
 use Rattle.kept_rows.specs.KeptRowsLayer.{rows_at}
-use Rattle.shortest.specs.BreadthLaws.{snoc_append, fresh_out}
+use Rattle.shortest.proofs.BreadthLaws.{snoc_append, fresh_out}
 
 module _ {A B : Type 0} (key : A → ℕ) (key' : B → ℕ) (g : A → B) (In : A → Type 0) (alike : (x y : A) → In x → In y → (key x ≡ key y) ↔ (key' (g x) ≡ key' (g y))) where
   -- the same things were seen

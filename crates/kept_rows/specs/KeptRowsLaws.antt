@@ -19,10 +19,10 @@ use Rattle.lists.specs.CountingLaws.{by_place}
 use Rattle.rows.specs.declared.Row.{Row}
 use Rattle.options.specs.declared.Depth.TheVariants.{None}
 use Rattle.paths.specs.Forest.{memb}
-use Rattle.paths.specs.ForestLaws.{memb_in, memb_out}
+use Rattle.paths.proofs.ForestLaws.{memb_in, memb_out}
 use Rattle.paths.specs.Rows.{num, par}
 use Rattle.paths.specs.Nodes.{sorted, starts}
-use Rattle.paths.specs.SiblingLaws.{sorted_is}
+use Rattle.paths.proofs.SiblingLaws.{sorted_is}
 use Rattle.shortest.specs.BreadthLayer.{fresh, spread, kept_starts, kept_rows, hanging_rows}
 use Rattle.table.specs.TableLayer.{row_column, parent_column, numeral_column, child_column, next_column, class_column, parent_position_column, flag_column}
 use Rattle.table.specs.TableLaws.{column_length, columns_long}
@@ -38,7 +38,7 @@ use Rattle.enumerate.specs.EnumerateLayer.{outside}
 use Rattle.enumerate.specs.EnumerateLaws.{all_starts}
 use Rattle.enumerate.specs.OrphanLaws.{row_named, row_count, prepared_few, prepared_walkable, prepared_listed, outside_kept, outside_walkable, outside_listed}
 use Rattle.kept_rows.specs.KeptRowsLayer.{class_of, Searchable, Seen, Met, Leads, Searched, RowsAt, rows_at, others_marked, Flagged, KeptLinked}
-use Rattle.shortest.specs.BreadthLaws.{increasing_cross, spread_more, spread_from, fresh_rising}
+use Rattle.shortest.proofs.BreadthLaws.{increasing_cross, spread_more, spread_from, fresh_rising}
 use Rattle.kept_rows.specs.AlikeLaws.{kept_starts_found, kept_rows_found}
 use Rattle.kept_rows.specs.SearchLaws.{take_none, queue_inside}
 use Rattle.kept_rows.specs.MaskLaws.{others_at}

@@ -7,7 +7,7 @@ use Rattle.paths.specs.Rows.{num, par}
 use Rattle.paths.specs.EmitLayer.{emit, mk_body}
 use Rattle.shortest.specs.Shortest.{shortest_bodies}
 use Rattle.shortest.specs.BreadthLayer.{kept_starts, hanging_rows}
-use Rattle.shortest.specs.ShortestLaws.{shortest_walk}
+use Rattle.shortest.proofs.ShortestLaws.{shortest_walk}
 use Rattle.table.specs.TableLayer.{row_column, flag_column}
 use Rattle.links.specs.PreparedLayer.{Prepared}
 use Rattle.enumerate.specs.OrphanLaws.{row_count}

@@ -10,7 +10,7 @@ use Rattle.lists.specs.MemberLaws.{map_append}
 use Rattle.lists.specs.MoveLaws.{slice_snoc}
 use Rattle.lists.specs.CountingLaws.{by_place, by_place_length}
 use Rattle.paths.specs.Forest.{memb}
-use Rattle.paths.specs.ForestLaws.{memb_snoc}
+use Rattle.paths.proofs.ForestLaws.{memb_snoc}
 use Rattle.table.specs.TableLayer.{flag_column, Stored}
 use Rattle.table.specs.TableLaws.{column_length}
 use Rattle.kept_rows.specs.KeptRowsLayer.{rows_at, others_marked, Flagged}

@@ -14,7 +14,7 @@ use Rattle.lists.specs.MemberLaws.{get_or_in, append_out, map_in, map_append, in
 use Rattle.links.specs.LinksLayer.{NextChain, end, more}
 use Rattle.table.specs.TableLayer.{child_column, next_column, class_column, flag_column}
 use Rattle.paths.specs.Forest.{memb}
-use Rattle.paths.specs.ForestLaws.{memb_in, memb_snoc}
+use Rattle.paths.proofs.ForestLaws.{memb_in, memb_snoc}
 use Rattle.walk.specs.WalkLayer.{Clear, flagged}
 use Rattle.shortest.specs.BreadthLayer.{fresh, spread}
 use Rattle.kept_rows.specs.KeptRowsLayer.{class_of, Searchable, Seen, Met, SiblingsMet, Leads}

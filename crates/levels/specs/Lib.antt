@@ -2,10 +2,3 @@ pub mod Levelled
 pub mod OutcomeLayer
 pub mod LineLayer
 pub mod PassLayer
-pub mod LineLaws
-pub mod CellLaws
-pub mod NodeLaws
-pub mod PassLaws
-pub mod LevelledLaws
-pub mod UpLaws
-pub mod LevelledCases

@@ -9,10 +9,10 @@ use Rattle.lists.specs.StoreLaws.{get_or_mapped}
 use Rattle.forest.specs.Nodes.{Before}
 use Rattle.levels.specs.Levelled.{is_blank, line_before, lines_of, sorted_lines, filled_columns, blank_line}
 use Rattle.levels.specs.LineLayer.{cells, line_at, lines_at, filled_number}
-use Rattle.levels.specs.LineLaws.{Cell, cell_out, Upto}
-use Rattle.levels.specs.LevelledLaws.{list_wide, list_sorted}
-use Rattle.levels.specs.CellLaws.{cells_start, filled_rest, filled_yes, filled_end}
-use Rattle.levels.specs.PassLaws.{longer_number}
+use Rattle.levels.proofs.LineLaws.{Cell, cell_out, Upto}
+use Rattle.levels.proofs.LevelledLaws.{list_wide, list_sorted}
+use Rattle.levels.proofs.CellLaws.{cells_start, filled_rest, filled_yes, filled_end}
+use Rattle.levels.proofs.PassLaws.{longer_number}
 
 -- ---- blank lines
 

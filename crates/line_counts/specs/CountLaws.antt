@@ -5,10 +5,10 @@ use Rattle.std.proofs.Math.Decide.{dec_lt, ℕ_discrete}
 use Rattle.levels.specs.Levelled.{sorted_lines, levelled_nodes}
 use Rattle.levels.specs.LineLayer.{cells, line_at, filled_number, Ready}
 use Rattle.levels.specs.PassLayer.{line_beside, fresh_beginnings, pass_at}
-use Rattle.levels.specs.CellLaws.{drop_cells, filled_few}
-use Rattle.levels.specs.NodeLaws.{one_pass}
-use Rattle.levels.specs.PassLaws.{fresh_number, pass_next, pass_end}
-use Rattle.levels.specs.LevelledLaws.{list_sorted}
+use Rattle.levels.proofs.CellLaws.{drop_cells, filled_few}
+use Rattle.levels.proofs.NodeLaws.{one_pass}
+use Rattle.levels.proofs.PassLaws.{fresh_number, pass_next, pass_end}
+use Rattle.levels.proofs.LevelledLaws.{list_sorted}
 use Rattle.line_counts.specs.CountLayer.{CountsBefore}
 use Rattle.line_counts.specs.ReadyLaws.{lines_length, line_at_lem, at_shared, shared_small}
 

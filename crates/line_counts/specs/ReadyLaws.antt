@@ -6,8 +6,8 @@ use Rattle.lists.specs.StoreLaws.{get_or_mapped}
 use Rattle.levels.specs.Levelled.{sorted_lines}
 use Rattle.levels.specs.LineLayer.{line_at, common, Ready}
 use Rattle.levels.specs.PassLayer.{line_beside}
-use Rattle.levels.specs.CellLaws.{cells_length, shared_length, shared_at}
-use Rattle.levels.specs.PassLaws.{common_le}
+use Rattle.levels.proofs.CellLaws.{cells_length, shared_length, shared_at}
+use Rattle.levels.proofs.PassLaws.{common_le}
 
 module _ {s : List ℕ} {w : ℕ} {order shared : List ℕ} (ready : Ready s w order shared) where
   pub lines_length : length (sorted_lines s w) ≡ length order

@@ -18,17 +18,17 @@ use Rattle.image.specs.Layout.{body_words, flat}
 use Rattle.image.specs.ImageLayer.{Put}
 use Rattle.image.specs.ImageLaws.{flat_append, length_flat}
 use Rattle.forest.specs.Nodes.{last_node, rank_of, tree_size}
-use Rattle.forest.specs.BeginningLaws.{begins_trans}
-use Rattle.forest.specs.ForestLaws.{node_rank, rank_of_node, no_rank_lem}
+use Rattle.forest.proofs.BeginningLaws.{begins_trans}
+use Rattle.forest.proofs.ForestLaws.{node_rank, rank_of_node, no_rank_lem}
 use Rattle.levels.specs.Levelled.{lines_of, line_before, sorted_lines, filled_beginnings, levelled_nodes, levelled_body, levelled_bodies}
 use Rattle.levels.specs.LineLayer.{line_at, filled_number, common, Ready}
 use Rattle.levels.specs.PassLayer.{line_beside, fresh_beginnings, pass_at, longer}
-use Rattle.levels.specs.LineLaws.{Upto, take_begins, begins_take, last_take, beginnings_out}
-use Rattle.levels.specs.CellLaws.{cells_length, get_or_cells}
-use Rattle.levels.specs.NodeLaws.{nodes_are, one_pass}
-use Rattle.levels.specs.PassLaws.{common_le, common_beside, common_begins, fresh_longer, longer_yes, longer_no, longer_end, longer_number, pass_next, pass_end, prev_next, earlier_no, size_by_end}
-use Rattle.levels.specs.UpLaws.{beginnings_more, beginnings_same, last_of_more, init_take, place_first}
-use Rattle.levels.specs.LevelledLaws.{list_wide, list_sorted, levelled_forest}
+use Rattle.levels.proofs.LineLaws.{Upto, take_begins, begins_take, last_take, beginnings_out}
+use Rattle.levels.proofs.CellLaws.{cells_length, get_or_cells}
+use Rattle.levels.proofs.NodeLaws.{nodes_are, one_pass}
+use Rattle.levels.proofs.PassLaws.{common_le, common_beside, common_begins, fresh_longer, longer_yes, longer_no, longer_end, longer_number, pass_next, pass_end, prev_next, earlier_no, size_by_end}
+use Rattle.levels.proofs.UpLaws.{beginnings_more, beginnings_same, last_of_more, init_take, place_first}
+use Rattle.levels.proofs.LevelledLaws.{list_wide, list_sorted, levelled_forest}
 use Rattle.line_counts.specs.CountLayer.{CountsBefore}
 use Rattle.line_counts.specs.ReadyLaws.{lines_length, shared_long, line_at_lem, at_shared, shared_small}
 use Rattle.line_writing.specs.declared.Line.{Line}

@@ -2,11 +2,3 @@ pub mod Machine
 pub mod Calls
 pub mod Simulation
 pub mod State
-pub mod StateLaws
-pub mod InverseLaws
-pub mod StepLaws
-pub mod SimulationLaws
-pub mod UndoLaws
-pub mod RedoLaws
-pub mod RemarkLaws
-pub mod MachineCases

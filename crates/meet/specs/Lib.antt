@@ -1,6 +1,2 @@
 pub mod Meet
 pub mod MeetLayer
-pub mod MeetLaws
-pub mod PassingLaws
-pub mod AcceptedLaws
-pub mod MeetCases

@@ -2,15 +2,3 @@ pub mod Nodes
 pub mod Bodies
 pub mod Refusals
 pub mod OutcomeLayer
-pub mod NodeLaws
-pub mod BodyLaws
-pub mod BlockLaws
-pub mod BodyWalkLaws
-pub mod AdoptWalkLaws
-pub mod ReadingLaws
-pub mod ParentLaws
-pub mod BoundLaws
-pub mod RefusalLaws
-pub mod EntryRefusalLaws
-pub mod LeftLaws
-pub mod NodeCases

@@ -16,7 +16,7 @@ use Rattle.sums.specs.Sums.{total_at, beyond}
 use Rattle.sums.proofs.Totals.{total_mag}
 use Rattle.pull.specs.Pull.{moved_at, bad_move}
 use Rattle.pull.specs.PullLayer.{next_shift, far, moves_to}
-use Rattle.pull.specs.BackLaws.{back_reaches, there_and_back, nothing_moved}
+use Rattle.pull.proofs.BackLaws.{back_reaches, there_and_back, nothing_moved}
 
 -- ---- sizes
 

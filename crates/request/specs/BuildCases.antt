@@ -14,7 +14,7 @@ use Rattle.paths.specs.Rows.{parent_zero}
 use Rattle.paths.specs.Nodes.{sorted, starts, regular, orphan_rows, tops, orphans, orphan_nodes, row_nodes}
 use Rattle.paths.specs.Sample.{line, sample}
 use Rattle.islands.specs.Entries.{below_entry, ringed, ringed_rows, unreached_of, entries_from, entry_paths_from, islands, entries, entry_paths}
-use Rattle.islands.specs.IslandCases.{gears}
+use Rattle.islands.proofs.IslandCases.{gears}
 use Rattle.nodes.specs.Nodes.{entries_of, with_entries, entry_nodes, nodes}
 use Rattle.nodes.specs.Bodies.{bodies, left_rows, left_of}
 use Rattle.nodes.specs.Refusals.{orphan_choice, refusal_of}

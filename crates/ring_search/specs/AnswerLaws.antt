@@ -9,9 +9,9 @@ use Rattle.paths.specs.Rows.{num, par}
 use Rattle.table.specs.TableLayer.{row_column, child_column}
 use Rattle.walk.specs.WalkLayer.{Rows, row_of, ListsChildren, rows_of}
 use Rattle.islands.specs.Islands.{Way}
-use Rattle.islands.specs.RingLaws.{way_one, way_cons, way_tail}
+use Rattle.islands.proofs.RingLaws.{way_one, way_cons, way_tail}
 use Rattle.islands.specs.Entries.{ringed}
-use Rattle.islands.specs.EntryLaws.{ringed_is}
+use Rattle.islands.proofs.EntryLaws.{ringed_is}
 use Rattle.ring_search.specs.SearchLayer.{ChildOf, Below, one, on, Looped, Search, Answered}
 
 module _ {next : List ℕ} {m : ℕ} where

@@ -10,7 +10,7 @@ use Rattle.packed.specs.LastWord.{packed}
 use Rattle.image.specs.Layout.{body_words, flat, checked}
 use Rattle.image.specs.ImageLaws.{length_flat}
 use Rattle.paths.specs.EmitLayer.{or_else, emit}
-use Rattle.paths.specs.EmitLaws.{emit_cons, emit_nil}
+use Rattle.paths.proofs.EmitLaws.{emit_cons, emit_nil}
 use Rattle.table.specs.TableLayer.{flag_column, Stored}
 use Rattle.walk.specs.WalkLaws.{walked_longer}
 use Rattle.walk.specs.WalkLayer.{Rows, row_of, Walked, NodesWalked, node_body, flagged}

@@ -16,14 +16,14 @@ use Rattle.paths.specs.Forest.{memb}
 use Rattle.paths.specs.Rows.{num, par, RowOf}
 use Rattle.paths.specs.Paths.{last}
 use Rattle.paths.specs.Nodes.{sorted, orphan_rows, orphans}
-use Rattle.paths.specs.ForestLaws.{memb_in, memb_out}
-use Rattle.paths.specs.SiblingLaws.{sorted_is, sorted_length, sorted_distinct}
+use Rattle.paths.proofs.ForestLaws.{memb_in, memb_out}
+use Rattle.paths.proofs.SiblingLaws.{sorted_is, sorted_length, sorted_distinct}
 use Rattle.ordering.specs.SiblingOrderLaws.{sorted_numbered}
 use Rattle.islands.specs.Entries.{below_entry, unreached_of, islands}
 use Rattle.islands.specs.EntryLayer.{below_walk, entry_walk}
-use Rattle.islands.specs.RingLaws.{path_way}
-use Rattle.islands.specs.EntryLaws.{below_is, unreached_of_lem, unreached_short, islands_good}
-use Rattle.islands.specs.ScanLaws.{children_cut, orphans_cut, walk_rows}
+use Rattle.islands.proofs.RingLaws.{path_way}
+use Rattle.islands.proofs.EntryLaws.{below_is, unreached_of_lem, unreached_short, islands_good}
+use Rattle.islands.proofs.ScanLaws.{children_cut, orphans_cut, walk_rows}
 use Rattle.table.specs.TableLayer.{row_column}
 use Rattle.passes.specs.PassesLayer.{Named, RowsOnce, rows_from, marked_by}
 use Rattle.passes.specs.PassesLaws.{marked_length, marked_at, row_written}

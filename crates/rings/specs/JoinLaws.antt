@@ -4,10 +4,10 @@ use Rattle.std.proofs.Common.{sym, ap, subst, ◌∙◌, arith}
 use Rattle.rows.specs.declared.Row.{Row}
 use Rattle.lists.specs.Lists.{◌∈◌}
 use Rattle.lists.specs.MemberLaws.{place_of}
-use Rattle.paths.specs.SiblingLaws.{sorted_is}
+use Rattle.paths.proofs.SiblingLaws.{sorted_is}
 use Rattle.islands.specs.Entries.{islands, entries}
 use Rattle.islands.specs.EntryLayer.{entry_walks, scan}
-use Rattle.islands.specs.ScanLaws.{scan_entries}
+use Rattle.islands.proofs.ScanLaws.{scan_entries}
 use Rattle.table.specs.TableLayer.{column, row_column, class_column, parent_position_column, flag_column}
 use Rattle.table.specs.TableLaws.{column_length}
 use Rattle.passes.specs.PassesLayer.{RowsOnce}

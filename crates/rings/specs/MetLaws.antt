@@ -10,11 +10,11 @@ use Rattle.image.specs.Layout.{row_at}
 use Rattle.paths.specs.Forest.{memb, next}
 use Rattle.paths.specs.Rows.{num, par}
 use Rattle.paths.specs.Paths.{last}
-use Rattle.paths.specs.ForestLaws.{memb_in, memb_out, path_one, next_in}
+use Rattle.paths.proofs.ForestLaws.{memb_in, memb_out, path_one, next_in}
 use Rattle.islands.specs.Islands.{Way}
 use Rattle.islands.specs.Entries.{below_entry}
-use Rattle.islands.specs.RingLaws.{way_tail, path_way, below_on}
-use Rattle.islands.specs.EntryLaws.{below_is}
+use Rattle.islands.proofs.RingLaws.{way_tail, path_way, below_on}
+use Rattle.islands.proofs.EntryLaws.{below_is}
 use Rattle.table.specs.TableLayer.{row_column, child_column, parent_position_column}
 use Rattle.table.specs.TableLaws.{column_length, columns_long}
 use Rattle.passes.specs.PassesLayer.{Named, rows_from}

@@ -11,11 +11,11 @@ use Rattle.image.specs.declared.Body.{Body}
 use Rattle.paths.specs.Forest.{memb}
 use Rattle.paths.specs.Rows.{num}
 use Rattle.paths.specs.Paths.{last}
-use Rattle.paths.specs.ForestLaws.{memb_out}
-use Rattle.paths.specs.SiblingLaws.{sorted_is}
+use Rattle.paths.proofs.ForestLaws.{memb_out}
+use Rattle.paths.proofs.SiblingLaws.{sorted_is}
 use Rattle.islands.specs.Entries.{below_entry, ringed, unreached_of}
 use Rattle.islands.specs.EntryLayer.{entry_walk, entry_walks, scan}
-use Rattle.islands.specs.ScanLaws.{scan_no, walks_yes}
+use Rattle.islands.proofs.ScanLaws.{scan_no, walks_yes}
 use Rattle.table.specs.TableLayer.{column, row_column, parent_position_column}
 use Rattle.table.specs.TableLaws.{column_length}
 use Rattle.walk.specs.WalkLayer.{Rows, rows_of, row_of, Walked}

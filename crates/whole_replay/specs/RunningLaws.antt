@@ -12,7 +12,7 @@ use Rattle.history.specs.declared.Replayed.{Replayed}
 use Rattle.machine.specs.Machine.{answers, after, start}
 use Rattle.machine.specs.Calls.{final, MinutesFit, AllFit}
 use Rattle.history.specs.Encoding.{call_of, call_at, first_calls, decoded, replay_refusal, replayed_of, refusals_of}
-use Rattle.machine.specs.SimulationLaws.{final_rows, final_kept, final_undone, final_valid}
+use Rattle.machine.proofs.SimulationLaws.{final_rows, final_kept, final_undone, final_valid}
 use Rattle.history.specs.ReplayLaws.{length_first, replay_simulates}
 use Rattle.navigate.specs.declared.Listed.{Listed}
 use Rattle.navigate.specs.Navigate.{descendants_answer, descendants_out}
@@ -28,7 +28,7 @@ use Rattle.answers.specs.Answers.{Navigation}
 use Rattle.guarantee.specs.Builds.{Refused}
 use Rattle.whole_replay.specs.declared.ReplayedAll.{ReplayedAll}
 use Rattle.guarantee.specs.Guarantee.{Guarantee}
-use Rattle.guarantee.specs.GuaranteeLaws.{guarantee}
+use Rattle.guarantee.proofs.GuaranteeLaws.{guarantee}
 use Rattle.whole_replay.specs.Running.{not_replayed, index_left, totals_left, days_left, out_left, replay_all_answer, AskedBuild, nodes_built, minutes_built, Demand3}
 
 -- ---- after a replay

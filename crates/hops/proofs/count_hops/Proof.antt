@@ -7,7 +7,7 @@ use lib.ListN.{length}
 use borrow.Author.Rules.{rules}
 use Rattle.image.specs.Layout.{size_at}
 use Rattle.hops.specs.Hops.{hops, zero_met}
-use Rattle.hops.specs.HopLaws.{hop_step, zero_here, zero_later, hop_done, hops_le}
+use Rattle.hops.proofs.HopLaws.{hop_step, zero_here, zero_later, hop_done, hops_le}
 use Rattle.hops.proofs.Answers.{answer}
 use Rattle.hops.proofs.count_hops.Statement.{statement}
 use Rattle.hops.proofs.count_hops.Tie as tie

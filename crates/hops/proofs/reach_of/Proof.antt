@@ -7,7 +7,7 @@ use borrow.Author.Tests.{eq-eqb, ne_eqb}
 use Rattle.image.specs.ImageLaws.{contents}
 use Rattle.spans.specs.UnrefusedLaws.{Span, span}
 use Rattle.hops.specs.declared.Reach.{Reach}
-use Rattle.hops.specs.HopLaws.{parent_bad, parent_fine, no_parent_lem}
+use Rattle.hops.proofs.HopLaws.{parent_bad, parent_fine, no_parent_lem}
 use Rattle.hops.proofs.reach_of.Statement.{statement}
 use Rattle.hops.proofs.reach_of.Tie as tie
 use Rattle.hops.proofs.reach_of.Reads as reads

@@ -10,7 +10,7 @@ use Rattle.spans.specs.Spans.{parent_end, rank_refusal}
 use Rattle.spans.specs.UnrefusedLaws.{Ranked, ranked}
 use Rattle.hops.specs.Hops.{zero_met, bad_parent, sibling_hops, bad_hops}
 use Rattle.hops.specs.HopsLayer.{reached}
-use Rattle.hops.specs.HopLaws.{parent_within}
+use Rattle.hops.proofs.HopLaws.{parent_within}
 use Rattle.hops.proofs.Answers.{rank_refused, parent_refused, hops_made, reach_bad, reach_fine}
 use Rattle.hops.proofs.siblings_by_hops.Statement.{statement}
 use Rattle.hops.proofs.siblings_by_hops.Tie as tie

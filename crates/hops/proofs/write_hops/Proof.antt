@@ -11,7 +11,7 @@ use Rattle.lists.specs.Lists.{front}
 use Rattle.lists.specs.StoreLaws.{length_front, left_room, drop_step, write_step}
 use Rattle.image.specs.Layout.{size_at}
 use Rattle.hops.specs.Hops.{hops, zero_met}
-use Rattle.hops.specs.HopLaws.{hop_step, zero_later, leads_on, hop_done}
+use Rattle.hops.proofs.HopLaws.{hop_step, zero_later, leads_on, hop_done}
 use Rattle.hops.proofs.write_hops.Statement.{statement}
 use Rattle.hops.proofs.write_hops.Tie as tie
 use Rattle.hops.proofs.write_hops.Reads as reads

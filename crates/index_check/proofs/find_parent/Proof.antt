@@ -8,7 +8,7 @@ use Rattle.lists.specs.Lists.{largest_to}
 use Rattle.lists.specs.RangeLaws.{all_at}
 use Rattle.image.specs.declared.Body.{Body}
 use Rattle.index_check.specs.IndexCheck.{contains, parent_of, parent_right, rank_right}
-use Rattle.index_check.specs.RankLaws.{right, parent_below, climb_here, climb_past}
+use Rattle.index_check.proofs.RankLaws.{right, parent_below, climb_here, climb_past}
 use Rattle.index_check.proofs.find_parent.Statement.{statement}
 use Rattle.index_check.proofs.find_parent.Tie as tie
 use Rattle.index_check.proofs.find_parent.Reads as reads

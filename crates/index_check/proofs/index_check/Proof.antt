@@ -7,7 +7,7 @@ use borrow.Author.Rules.{rules}
 use Rattle.image.specs.Layout.{bad_contents}
 use Rattle.image.specs.ImageLaws.{Contents, contents, contents_of}
 use Rattle.index_check.specs.IndexCheck.{zeros_right, check_right, accepts}
-use Rattle.index_check.specs.RankLaws.{contents_some}
+use Rattle.index_check.proofs.RankLaws.{contents_some}
 use Rattle.index_check.proofs.index_check.Statement.{statement}
 use Rattle.index_check.proofs.index_check.Tie as tie
 use Rattle.index_check.proofs.index_check.Reads as reads

@@ -4,7 +4,7 @@ use mathlib.Core.Bool.{true, and-false}
 use borrow.Author.Tests.{not-true, not-false}
 use borrow.Author.Rules.{rules}
 use Rattle.index_check.specs.IndexCheck.{size_right, end_right, parent_right, level_right, root_right, rank_right}
-use Rattle.index_check.specs.RankLaws.{parent_below}
+use Rattle.index_check.proofs.RankLaws.{parent_below}
 use Rattle.index_check.specs.IndexCheckLayer.{ParentBelow}
 use Rattle.index_check.proofs.rank_right.Statement.{statement}
 use Rattle.index_check.proofs.rank_right.Tie as tie

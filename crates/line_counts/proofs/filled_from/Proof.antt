@@ -2,7 +2,7 @@ use borrow.Author.Rules.{rules}
 use native.Mathlib.Omega.{arith}
 use Prim.Native.Nat.{◌≤◌, ◌-◌, ◌+◌, ◌*◌}
 use Rattle.levels.specs.LineLayer.{cells, filled_number}
-use Rattle.levels.specs.CellLaws.{filled_rest, filled_few, filled_add, filled_skip, filled_last}
+use Rattle.levels.proofs.CellLaws.{filled_rest, filled_few, filled_add, filled_skip, filled_last}
 use mathlib.Core.Path.{◌≡◌, ap}
 use lib.ListN.{get_or}
 use Rattle.line_counts.proofs.filled_from.Statement.{statement}

@@ -4,7 +4,7 @@ use Prim.Native.Nat.{◌≤◌, ◌-◌, ◌+◌, ◌*◌}
 use mathlib.Core.Path.{◌≡◌, sym, ap, ◌∙◌}
 use lib.ListN.{get_or}
 use Rattle.levels.specs.LineLayer.{cells, filled_number}
-use Rattle.levels.specs.CellLaws.{filled_rest, filled_no}
+use Rattle.levels.proofs.CellLaws.{filled_rest, filled_no}
 use Rattle.line_counts.specs.BlankLaws.{blank_start, blank_no, blank_yes}
 use Rattle.line_counts.proofs.is_blank.Statement.{statement}
 use Rattle.line_counts.proofs.is_blank.Tie as tie

@@ -11,7 +11,7 @@ use Rattle.image.specs.declared.Body.{Body}
 use Rattle.climb.specs.Climb.{bad_climb}
 use Rattle.climb.specs.ClimbLaws.{stuck_step, stuck_bad}
 use Rattle.meet.specs.Meet.{common}
-use Rattle.meet.specs.MeetLaws.{first_up, second_up, climbs_broken, climbs_met}
+use Rattle.meet.proofs.MeetLaws.{first_up, second_up, climbs_broken, climbs_met}
 use Rattle.meet.proofs.climbs_meet.Statement.{statement}
 use Rattle.meet.proofs.climbs_meet.Tie as tie
 use Rattle.meet.proofs.climbs_meet.Reads as reads

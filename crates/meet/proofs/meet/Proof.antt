@@ -7,7 +7,7 @@ use Rattle.lists.specs.ChoiceLaws.{first_zero}
 use Rattle.spans.specs.Spans.{rank_refusal}
 use Rattle.spans.specs.UnrefusedLaws.{Ranked, ranked}
 use Rattle.meet.specs.Meet.{refused}
-use Rattle.meet.specs.MeetLaws.{ranks_refused, ranks_passed}
+use Rattle.meet.proofs.MeetLaws.{ranks_refused, ranks_passed}
 use Rattle.meet.proofs.meet.Statement.{statement}
 use Rattle.meet.proofs.meet.Tie as tie
 use Rattle.meet.proofs.meet.Reads as reads

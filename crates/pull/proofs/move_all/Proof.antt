@@ -16,7 +16,7 @@ use Rattle.image.specs.Layout.{node_count}
 use Rattle.sums.specs.Sums.{total_at, beyond}
 use Rattle.pull.specs.Pull.{moved_at, bad_move, bad_pull, moved}
 use Rattle.pull.specs.PullLayer.{moves_to}
-use Rattle.pull.specs.PullLaws.{shift_first, Reaches, reaches, bad_at_lem, none_bad}
+use Rattle.pull.proofs.PullLaws.{shift_first, Reaches, reaches, bad_at_lem, none_bad}
 use Rattle.pull.proofs.Moves.{taken_back}
 use Rattle.pull.proofs.move_all.Statement.{statement}
 use Rattle.pull.proofs.move_all.Tie as tie

@@ -18,7 +18,7 @@ use Rattle.sums.specs.SumsLayer.{found}
 use Rattle.sums.proofs.Answers.{found_refused, found_fine}
 use Rattle.pull.specs.Pull.{shift_at, moved_at, bad_move}
 use Rattle.pull.specs.PullLayer.{next_shift, moves_to}
-use Rattle.pull.specs.PullLaws.{shift_first, shift_next, moves_on, moves_end, moves_done}
+use Rattle.pull.proofs.PullLaws.{shift_first, shift_next, moves_on, moves_end, moves_done}
 use Rattle.pull.proofs.Moves.{shift_mag, moved_mag}
 use Rattle.pull.proofs.move_totals.Statement.{statement}
 use Rattle.pull.proofs.move_totals.Tie as tie

@@ -13,8 +13,8 @@ use Rattle.lists.specs.Lists.{front}
 use Rattle.lists.specs.ChoiceLaws.{first_refused}
 use Rattle.sums.specs.Sums.{totals_refusal}
 use Rattle.pull.specs.Pull.{bad_pull, pull_refusal, moved, pull_out}
-use Rattle.pull.specs.PullLaws.{totals_enough}
-use Rattle.pull.specs.MoveLaws.{kept}
+use Rattle.pull.proofs.PullLaws.{totals_enough}
+use Rattle.pull.proofs.MoveLaws.{kept}
 use Rattle.pull.proofs.pull.Statement.{statement}
 use Rattle.pull.proofs.pull.Tie as tie
 use Rattle.pull.proofs.pull.Reads as reads

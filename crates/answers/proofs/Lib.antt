@@ -1,0 +1,9 @@
+pub mod DescribedLaws
+pub mod TestLaws
+pub mod AnswerLaws
+pub mod RankLaws
+pub mod ClimbLaws
+pub mod MeetLaws
+pub mod PathSumLaws
+pub mod NavigationLaws
+pub mod ZeroLaws

@@ -1,0 +1,2 @@
+pub mod DatedLaws
+pub mod DatedCases

@@ -1,0 +1,16 @@
+pub mod KindLaws
+pub mod BodyLaws
+pub mod SentenceLaws
+pub mod MinutesLaws
+pub mod LevelledBuildLaws
+pub mod ShortestBuildLaws
+pub mod DatedBuildLaws
+pub mod PathBuildLaws
+pub mod DefaultBuildLaws
+pub mod SameNodesLaws
+pub mod DaysUnreadLaws
+pub mod PullLaws
+pub mod GuaranteeLaws
+pub mod LeftIndexLaws
+pub mod BuiltIndexLaws
+pub mod MarkedLaws

@@ -1,0 +1,5 @@
+pub mod RankLaws
+pub mod CheckLaws
+pub mod NavigationLaws
+pub mod LevelLaws
+pub mod AcceptLaws

@@ -1,0 +1,5 @@
+pub mod IslandCases
+pub mod RingLaws
+pub mod EntryLaws
+pub mod EntryPathLaws
+pub mod ScanLaws

@@ -1,0 +1,9 @@
+pub mod StateLaws
+pub mod InverseLaws
+pub mod StepLaws
+pub mod SimulationLaws
+pub mod UndoLaws
+pub mod RedoLaws
+pub mod ReturnLaws
+pub mod RemarkLaws
+pub mod MachineCases

@@ -1,0 +1,4 @@
+pub mod MeetLaws
+pub mod PassingLaws
+pub mod AcceptedLaws
+pub mod MeetCases

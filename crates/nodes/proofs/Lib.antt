@@ -1,0 +1,12 @@
+pub mod NodeLaws
+pub mod BodyLaws
+pub mod BlockLaws
+pub mod BodyWalkLaws
+pub mod AdoptWalkLaws
+pub mod ReadingLaws
+pub mod ParentLaws
+pub mod BoundLaws
+pub mod RefusalLaws
+pub mod EntryRefusalLaws
+pub mod LeftLaws
+pub mod NodeCases

@@ -1,0 +1,4 @@
+pub mod BreadthLaws
+pub mod KeptLaws
+pub mod ShortestLaws
+pub mod ShortestCases
