@@ -5,8 +5,9 @@
     tests/believed.py --write      puts the list into docs/PROOFS.md
     tests/believed.py --why NAME   prints by which citations NAME is reached
 
-The rule for crates/*/specs: a file with a plain name holds definitions that are reached, and nothing else. *Laws.antt has laws and what only
-laws need, *Layer.antt what only contracts of inner functions cite, *Cases.antt definitions run on examples; Lib.antt is the crate's root.
+The rule for crates/*/specs: a file with a plain name holds definitions that are reached, and nothing else. *Laws.antt, there or in proofs/, has
+laws and what only laws need, *Layer.antt what only contracts of inner functions cite, *Cases.antt definitions run on examples; Lib.antt is the
+crate's root. Laws stand in proofs/ where a wrong definition must be refused by them: the checker's tool wants every text of specs/ to be admitted.
 Structs and enums stand in src/ and end the search. Names are followed by their text alone: a bound variable that has the name of a
 definition counts as a citation of it.
 """
@@ -211,7 +212,8 @@ def judge(specs, search):
 def main():
     os.chdir(os.path.join(os.path.dirname(os.path.abspath(__file__)), ".."))
     specs = {}
-    for path in sorted(glob.glob("crates/*/specs/*.antt")):
+    laws = [path for path in glob.glob("crates/*/proofs/*.antt") if re.search(r"(Laws|Cases)[.]antt$", path)]
+    for path in sorted(glob.glob("crates/*/specs/*.antt") + laws):
         crate, name = path.split("/")[1], os.path.basename(path)[: -len(".antt")]
         if name != "Lib":
             specs[crate, name] = Specs(path, crate, name)
