@@ -155,6 +155,7 @@ fn none_or(many: usize, e: Entry, n: usize) -> bool
 }
 
 // Whether a board is sound, by its numbers, its newest entries and whether all its rows have numerals of 1 or more.
+#[tactic(auto, unfolding(crate::specs::SoundLayer::sound_by))]
 pub fn sound_by(
     count: usize,
     kept: usize,
