@@ -1,6 +1,7 @@
 -- `history::known` meets its contract. Assumes nothing.
-use mathlib.Core.Path.{◌≡◌, refl, sym, ap, ◌∙◌, subst}
-use mathlib.Core.Bool.{true}
+use mathlib.Core.Path.{◌≡◌, refl, sym, ap, ◌∙◌}
+use mathlib.Core.Bool.{true, false}
+use mathlib.Core.List.{List}
 use Rattle.history.specs.Encoding.{kind_at, all_known}
 use Rattle.history.specs.ReplayLaws.{known_not}
 use borrow.Author.Tests.{lt-leb, le-leb}
@@ -26,12 +27,9 @@ mul-get c = search rules
 get-requires : tie.Need-get-requires invariant-loop decreases-loop
 get-requires c κs = search rules
 
-returns : tie.Need-returns-then-get-gt4 invariant-loop decreases-loop
-returns c =
-    let a = c.args in
-    let l = c.loop-i in
-    let k : 4 < kind_at a.words.now l.i = subst (λ (m : ℕ). 4 < m) c.get.ensures c.if-get-gt4.true in
-    sym (known_not a.words.now a.n l.i c.loop-i-test.true (lt-leb (kind_at a.words.now l.i) 4 k))
+-- a call of unknown kind decides, whatever the calls after it are
+above : (words : List ℕ) (n i x : ℕ) → x ≡ kind_at words i → i < n → 4 < x → false ≡ all_known words n
+above words n i x e h k = sym (known_not words n i h (lt-leb (kind_at words i) 4 (omega (arith, e))))
 
 add-i : tie.Need-overflow_add-i invariant-loop decreases-loop
 add-i c = search rules
@@ -43,7 +41,7 @@ loop-again : tie.Need-loop-i-preserved invariant-loop decreases-loop
 loop-again c =
     let a = c.args in
     let l = c.loop-i in
-    let k : kind_at a.words.now l.i ≤ 4 = subst (λ (m : ℕ). m ≤ 4) c.get.ensures c.if-get-gt4.false in
+    let k : kind_at a.words.now l.i ≤ 4 = omega (arith, c.get.ensures) in
     (omega arith, rw add-one (simp (l.invariant.1, le-leb (kind_at a.words.now l.i) 4 k)))
 
 returns-2 : tie.Need-returns invariant-loop decreases-loop
@@ -62,7 +60,7 @@ known_spec =
     loop-holds
     mul-get
     get-requires
-    returns
+    (λ c. above _ _ c.loop-i.i _ c.get.ensures c.loop-i-test.true (omega arith))
     add-i
     loop-less
     loop-again
