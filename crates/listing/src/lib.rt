@@ -65,6 +65,7 @@ impl Load {
     }
 
     // The input has ended; its last newline may be missing.
+    #[tactic(auto, unfolding(crate::specs::Loading::end_of))]
     pub fn end(self) -> Load
         ensures { result ≡ end_of self }
     {
@@ -89,6 +90,7 @@ impl Load {
 }
 
 // Goes on with the bytes of a chunk, a line at each turn.
+#[tactic(auto, using(crate::proofs::Turns::feed_refused))]
 pub fn feed(load: Load, chunk: &[u8]) -> Load
     ensures { result ≡ feed_of load chunk.now }
 {
