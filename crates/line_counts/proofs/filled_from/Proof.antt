@@ -43,19 +43,12 @@ add-n : tie.Need-overflow_add-n invariant-loop decreases-loop
 add-n c =
     let i = c.loop-c.invariant in omega (arith, filled_few c.args.lines.now c.args.width (c.args.number * c.args.width) c.args.from)
 
-loop-less : tie.Need-loop-c-smaller-then-x-ne0 invariant-loop decreases-loop
-loop-less c = search rules
-
-loop-again : tie.Need-loop-c-preserved-then-x-ne0 invariant-loop decreases-loop
-loop-again c =
-    let i = c.loop-c.invariant in (omega arith, omega arith, filled_add _ _ _ _ _ _ _ i.2 c.loop-c-test.true (ap (λ a. get_or c.args.lines.now (a + c.loop-c.c) 0) c.line_start-at.ensures.0) c.if-x-ne0.true)
-
 loop-less-2 : tie.Need-loop-c-smaller invariant-loop decreases-loop
 loop-less-2 c = search rules
 
 loop-again-2 : tie.Need-loop-c-preserved invariant-loop decreases-loop
 loop-again-2 c =
-    let i = c.loop-c.invariant in (omega arith, omega arith, filled_skip _ _ _ _ _ _ _ i.2 c.loop-c-test.true (ap (λ a. get_or c.args.lines.now (a + c.loop-c.c) 0) c.line_start-at.ensures.0) c.if-x-ne0.false)
+    let i = c.loop-c.invariant in (omega arith, omega arith, filled_skip _ _ _ _ _ _ _ i.2 c.loop-c-test.true (ap (λ a. get_or c.args.lines.now (a + c.loop-c.c) 0) c.line_start-at.ensures.0) (omega arith))
 
 returns : tie.Need-returns invariant-loop decreases-loop
 returns c =
@@ -74,8 +67,8 @@ filled_from_spec =
     shared-slice-read-x
     add-c
     add-n
-    loop-less
-    loop-again
+    (λ c. search rules)
+    (λ c. let i = c.loop-c.invariant in (omega arith, omega arith, filled_add _ _ _ _ _ _ _ i.2 c.loop-c-test.true (ap (λ a. get_or c.args.lines.now (a + c.loop-c.c) 0) c.line_start-at.ensures.0) (omega arith)))
     loop-less-2
     loop-again-2
     returns)
