@@ -3,7 +3,7 @@ use mathlib.Core.List.{List}
 use Prim.Native.Nat.{ℕ}
 use Rattle.lists.specs.MemberLaws.{filter_short}
 use Rattle.lists.specs.StoreLaws.{zeros_length, zeros_whole}
-use Rattle.passes.specs.PassesLayer.{Named, rows_from, reached_flags}
+use Rattle.passes.specs.PassesLayer.{Named, rows_to, rows_from, reached_flags}
 use Rattle.passes.specs.PassesLaws.{marked_length, marked_zeros, rows_from_first}
 use Rattle.finish.specs.FinishLaws.{left_counted, left_unasked}
 use borrow.Author.Rules.{rules}
@@ -13,17 +13,13 @@ use lib.ListN.{length}
 use Rattle.finish.proofs.count_left.Statement.{statement}
 use Rattle.finish.proofs.count_left.Tie as tie
 
-returns : tie.Need-returns-then-orphan-gt1
-returns c =
-    left_unasked _ _ _ c.if-orphan-gt1.true
-
 clear-requires : tie.Need-clear-requires
 clear-requires c κs = search rules
 
 mark-rows-requires : tie.Need-mark_rows-requires
 mark-rows-requires c κs =
     let p = c.requires in
-    (omega arith, p.0, subst (Named c.args.index.now 0 c.args.n) (sym (zeros_length c.clear.new.s (length c.args.reached.now) c.clear.ensures)) (p.1 (omega (arith, c.if-orphan-gt1.false))))
+    (omega arith, p.0, subst (Named c.args.index.now 0 c.args.n) (sym (zeros_length c.clear.new.s (length c.args.reached.now) c.clear.ensures)) (p.1 (omega arith)))
 
 count-clear-requires : tie.Need-count_clear-requires
 count-clear-requires c κs = search rules
@@ -38,13 +34,13 @@ same_length c = search rules
 
 returns-2 : tie.Need-returns
 returns-2 c =
-    left_counted _ _ _ _ _ c.if-orphan-gt1.false (c.mark_rows.ensures ∙ marked_zeros (rows_from c.args.index.now 0 c.args.n) _ _ c.clear.ensures ∙ ap (λ (l : List ℕ). reached_flags l (length c.args.reached.now)) (rows_from_first c.args.index.now c.args.n)) c.count_clear.ensures
+    left_counted c.args.orphan (rows_to c.args.index.now c.args.n) _ _ _ (omega arith) (c.mark_rows.ensures ∙ marked_zeros (rows_from c.args.index.now 0 c.args.n) _ _ c.clear.ensures ∙ ap (λ (l : List ℕ). reached_flags l (length c.args.reached.now)) (rows_from_first c.args.index.now c.args.n)) c.count_clear.ensures
 
 pub count_left_spec : {M : Type 1} → statement M
 count_left_spec =
     tie.close
     (tie.spec
-    returns
+    (λ c. left_unasked c.args.orphan (rows_to c.args.index.now c.args.n) (length c.args.reached.now) (omega arith))
     clear-requires
     mark-rows-requires
     count-clear-requires
