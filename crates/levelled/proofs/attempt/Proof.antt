@@ -1,8 +1,8 @@
 use borrow.Author.Rules.{rules}
 use native.Mathlib.Omega.{arith}
-use Prim.Native.Nat.{◌-◌, ◌+◌}
+use Prim.Native.Nat.{◌-◌, ◌+◌, ◌≤◌, ◌/◌}
 use mathlib.Core.Path.{refl, sym, ap, ◌∙◌}
-use lib.ListN.{replicate}
+use lib.ListN.{replicate, length}
 use Rattle.levelled.specs.BuildLaws.{attempt_18, attempt_19, width_zero, width_large, not_whole, whole_lines, too_many, few_lines, taken}
 use Rattle.levelled.proofs.attempt.Statement.{statement}
 use Rattle.levelled.proofs.attempt.Tie as tie
@@ -28,36 +28,22 @@ returns-2 c =
 rem-if3 : tie.Need-nonzero_rem-lines
 rem-if3 c = search rules
 
-refused-requires-3 : tie.Need-refused-requires-then-lines-w-ne0
-refused-requires-3 c κs = search rules
-
-returns-3 : tie.Need-returns-then-lines-w-ne0
-returns-3 c =
-    attempt_18 c.args.lines.now c.args.width _ _ _ _ _ c.refused-then-lines-w-ne0.ensures (not_whole c.args.lines.now c.args.width c.if-width-eq0.false c.if-width-gt8.false c.if-lines-w-ne0.true)
-
 div-count : tie.Need-nonzero_div-count
 div-count c = search rules
-
-refused-requires-4 : tie.Need-refused-requires-then-count-gt512
-refused-requires-4 c κs = search rules
-
-returns-4 : tie.Need-returns-then-count-gt512
-returns-4 c =
-    attempt_19 c.args.lines.now c.args.width _ _ _ _ _ c.refused-then-count-gt512.ensures (whole_lines c.args.lines.now c.args.width c.if-width-eq0.false c.if-width-gt8.false c.if-lines-w-ne0.false) (too_many c.args.lines.now c.args.width c.if-count-gt512.true)
 
 array-borrow-prefix-order : tie.Need-slice_bounds-order-end
 array-borrow-prefix-order c = search rules
 
 slice-aggregate-run : tie.Need-slice_bounds-run-end
 slice-aggregate-run c =
-    sym (taken _ 512 (replicate 512 0) refl c.if-count-gt512.false)
+    sym (taken _ 512 (replicate 512 0) refl (omega arith))
 
 array-borrow-prefix-shared : tie.Need-slice_bounds-shared-end
 array-borrow-prefix-shared c = search rules
 
 slice-aggregate-run-2 : tie.Need-slice_bounds-run-end-2
 slice-aggregate-run-2 c =
-    sym (taken _ 512 (replicate 512 0) refl c.if-count-gt512.false)
+    sym (taken _ 512 (replicate 512 0) refl (omega arith))
 
 add-firsts : tie.Need-overflow_add-firsts
 add-firsts c = search rules
@@ -67,13 +53,7 @@ array-borrow-prefix-firsts c = search rules
 
 slice-aggregate-run-3 : tie.Need-slice_bounds-run-end-3
 slice-aggregate-run-3 c =
-    sym (taken _ 513 (replicate 513 0) refl (omega (arith, c.if-count-gt512.false)))
-
-run-requires : tie.Need-run-requires
-run-requires c κs =
-    let h = c.if-count-gt512.false in
-    let q = taken _ 512 (replicate 512 0) refl h in
-    (whole_lines c.args.lines.now c.args.width c.if-width-eq0.false c.if-width-gt8.false c.if-lines-w-ne0.false, few_lines c.args.lines.now c.args.width h, omega (arith, c.if-width-eq0.false), c.if-width-gt8.false, omega (arith, q), q, refl, taken _ 513 (replicate 513 0) refl (omega (arith, h)) ∙ ap (λ n. n + 1) (sym q))
+    sym (taken _ 513 (replicate 513 0) refl (omega arith))
 
 same_length : tie.Need-shape_of-index
 same_length c = search rules
@@ -93,11 +73,11 @@ attempt_spec =
     refused-requires-2
     returns-2
     rem-if3
-    refused-requires-3
-    returns-3
+    (λ c κs. search rules)
+    (λ c. attempt_18 c.args.lines.now c.args.width _ _ _ _ _ (cc) (not_whole c.args.lines.now c.args.width c.if-width-eq0.false c.if-width-gt8.false (omega arith)))
     div-count
-    refused-requires-4
-    returns-4
+    (λ c κs. search rules)
+    (λ c. attempt_19 c.args.lines.now c.args.width _ _ _ _ _ (cc) (whole_lines c.args.lines.now c.args.width c.if-width-eq0.false c.if-width-gt8.false (omega arith)) (too_many c.args.lines.now c.args.width (omega arith)))
     array-borrow-prefix-order
     slice-aggregate-run
     array-borrow-prefix-shared
@@ -105,7 +85,10 @@ attempt_spec =
     add-firsts
     array-borrow-prefix-firsts
     slice-aggregate-run-3
-    run-requires
+    (λ c κs.
+    let h : length c.args.lines.now / c.args.width ≤ 512 = omega arith in
+    let q = taken _ 512 (replicate 512 0) refl h in
+    (whole_lines c.args.lines.now c.args.width c.if-width-eq0.false c.if-width-gt8.false (omega arith), few_lines c.args.lines.now c.args.width h, omega (arith, c.if-width-eq0.false), c.if-width-gt8.false, omega (arith, q), q, refl, taken _ 513 (replicate 513 0) refl (omega (arith, h)) ∙ ap (λ n. n + 1) (sym q)))
     same_length
     same-length-2
     returns-5)
