@@ -1,8 +1,9 @@
 use borrow.Author.Rules.{rules}
 use native.Mathlib.Omega.{arith}
 use mathlib.Core.Path.{◌≡◌, sym, ap, ◌∙◌}
-use Prim.Native.Nat.{ℕ, ◌≤◌}
-use lib.ListN.{length}
+use Prim.Native.Nat.{ℕ, ◌≤◌, ◌<◌, ◌-◌}
+use lib.ListN.{length, get_or}
+use mathlib.Core.List.{List}
 use Rattle.table.specs.TableLayer.{flag_column}
 use Rattle.orphans.specs.OutsideLayer.{last_flag, last_below}
 use Rattle.orphans.specs.OutsideLaws.{last_here, last_before, last_none}
@@ -21,6 +22,11 @@ abbrev decreases-loop : tie.decreases-loop-k
 decreases-loop table n k₀ k =
     k
 
+found : (flags : List ℕ) (k r : ℕ) → 0 < k → r ≡ get_or flags (k - 1) 0 → r ≡ 1 → last_below flags (length flags) ≡ last_below flags k → k - 1 ≡ last_flag flags
+unfolding last_flag
+found flags k r h e o q =
+    last_here flags k r h e o ∙ sym q
+
 rows-requires : tie.Need-rows-n-requires invariant-loop decreases-loop
 rows-requires c κs = search rules
 
@@ -38,17 +44,12 @@ sub-k c = search rules
 flag-requires : tie.Need-flag-requires invariant-loop decreases-loop
 flag-requires c κs = search rules
 
-returns : tie.Need-returns-then-flag-eq1 invariant-loop decreases-loop
-unfolding last_flag
-returns c =
-    last_here _ _ _ c.loop-k-test.true c.flag.ensures c.if-flag-eq1.true ∙ sym c.loop-k.invariant.1
-
 loop-less : tie.Need-loop-k-smaller invariant-loop decreases-loop
 loop-less c = search rules
 
 loop-again : tie.Need-loop-k-preserved invariant-loop decreases-loop
 loop-again c =
-    (omega arith, c.loop-k.invariant.1 ∙ last_before _ _ _ c.loop-k-test.true c.flag.ensures c.if-flag-eq1.false)
+    (omega arith, c.loop-k.invariant.1 ∙ last_before _ _ _ c.loop-k-test.true c.flag.ensures (λ z. omega arith))
 
 returns-2 : tie.Need-returns invariant-loop decreases-loop
 unfolding last_flag
@@ -66,7 +67,7 @@ last_flag_spec =
     loop-holds
     sub-k
     flag-requires
-    returns
+    (λ c. found (flag_column c.args.table.now) _ _ c.loop-k-test.true c.flag.ensures (omega arith) c.loop-k.invariant.1)
     loop-less
     loop-again
     returns-2)
