@@ -70,19 +70,6 @@ shared-slice-read-if2 c =
     let l = c.loop-p in
     omega (arith, row_named _ _ _ _ _ c.requires.0 (l.invariant.0.others 0 (omega arith) (omega arith)) (omega (arith, c.if-n-q.false, l.invariant.1)) c.word-x.ensures)
 
-add-p-2 : tie.Need-overflow_add-p-then-reached-x-eq0 invariant-loop decreases-loop
-add-p-2 c =
-    omega (arith, c.loop-p-test.true, c.loop-p.invariant.1, c.requires.1, column_length 0 c.args.table.now)
-
-loop-less-2 : tie.Need-loop-p-smaller-then-reached-x-eq0 invariant-loop decreases-loop
-loop-less-2 c =
-    omega (arith, c.loop-p-test.true)
-
-loop-again-2 : tie.Need-loop-p-preserved-then-reached-x-eq0 invariant-loop decreases-loop
-loop-again-2 c =
-    let l = c.loop-p in
-    (cut_stays _ _ _ _ _ _ l.invariant.0 l.invariant.1 (omega (arith, c.loop-p-test.true, l.invariant.1)) c.word-q.ensures _ _ c.if-n-q.false c.word-x.ensures refl c.if-reached-x-eq0.true, l.invariant.1)
-
 set-child-requires : tie.Need-set_child-requires invariant-loop decreases-loop
 set-child-requires c κs =
     let l = c.loop-p in
@@ -99,7 +86,7 @@ loop-less-3 c =
 loop-again-3 : tie.Need-loop-p-preserved invariant-loop decreases-loop
 loop-again-3 c =
     let l = c.loop-p in
-    (cut_goes _ _ _ _ _ _ l.invariant.0 l.invariant.1 (omega (arith, c.loop-p-test.true, l.invariant.1)) c.word-q.ensures _ _ _ c.if-n-q.false c.word-x.ensures refl c.if-reached-x-eq0.false c.set_child.ensures, l.invariant.1)
+    (cut_goes _ _ _ _ _ _ l.invariant.0 l.invariant.1 (omega (arith, c.loop-p-test.true, l.invariant.1)) c.word-q.ensures _ _ _ c.if-n-q.false c.word-x.ensures refl (omega arith) c.set_child.ensures, l.invariant.1)
 
 same_length : tie.Need-shape_of-table invariant-loop decreases-loop
 same_length c =
@@ -127,9 +114,11 @@ cut_children_spec =
     sub-if2
     mul-if2
     shared-slice-read-if2
-    add-p-2
-    loop-less-2
-    loop-again-2
+    (λ c. omega (arith, c.loop-p-test.true, c.loop-p.invariant.1, c.requires.1, column_length 0 c.args.table.now))
+    (λ c. omega (arith, c.loop-p-test.true))
+    (λ c.
+    let l = c.loop-p in
+    (cut_stays _ _ _ _ _ _ l.invariant.0 l.invariant.1 (omega (arith, c.loop-p-test.true, l.invariant.1)) c.word-q.ensures _ _ c.if-n-q.false c.word-x.ensures refl (omega arith), l.invariant.1))
     set-child-requires
     add-p-3
     loop-less-3
