@@ -74,7 +74,7 @@ add-rank : tie.Need-overflow_add-rank invariant-loop decreases-loop
 add-rank c =
     let i = c.loop-c.invariant in
     let p = c.requires in
-    omega (arith, one_more _ _ p.0.0 _ p.0.1 _ _ _ _ _ i.2 c.loop-c-test.true _ (ap (λ a. get_or c.args.lines.now (a + c.loop-c.c) 0) c.line_start-at.ensures.0) c.if-cell-ne0.true, p.1.1.2)
+    omega (arith, one_more _ _ p.0.0 _ p.0.1 _ _ _ _ _ i.2 c.loop-c-test.true _ (ap (λ a. get_or c.args.lines.now (a + c.loop-c.c) 0) c.line_start-at.ensures.0) (omega arith), p.1.1.2)
 
 root-of-requires : tie.Need-root_of-root-requires invariant-loop decreases-loop
 root-of-requires c κs = search rules
@@ -91,33 +91,13 @@ sub-t28 : tie.Need-overflow_sub-body invariant-loop decreases-loop
 sub-t28 c =
     let i = c.loop-c.invariant in
     let p = c.requires in
-    omega (arith, c.end_of-end.ensures, size_is _ _ p.0.0 _ p.0.1 _ _ _ _ _ i.2 c.loop-c-test.true _ (ap (λ a. get_or c.args.lines.now (a + c.loop-c.c) 0) c.line_start-at.ensures.0) c.if-cell-ne0.true _ (p.1.0 c.loop-c.c i.0 c.loop-c-test.true))
-
-cast-t29 : tie.Need-overflow_cast-body-then-cell-ne0 invariant-loop decreases-loop
-cast-t29 c = search rules
+    omega (arith, c.end_of-end.ensures, size_is _ _ p.0.0 _ p.0.1 _ _ _ _ _ i.2 c.loop-c-test.true _ (ap (λ a. get_or c.args.lines.now (a + c.loop-c.c) 0) c.line_start-at.ensures.0) (omega arith) _ (p.1.0 c.loop-c.c i.0 c.loop-c-test.true))
 
 put-body-requires : tie.Need-put_body-requires invariant-loop decreases-loop
 put-body-requires c κs =
     let i = c.loop-c.invariant in
     let p = c.requires in
-    omega (arith, one_more _ _ p.0.0 _ p.0.1 _ _ _ _ _ i.2 c.loop-c-test.true _ (ap (λ a. get_or c.args.lines.now (a + c.loop-c.c) 0) c.line_start-at.ensures.0) c.if-cell-ne0.true, p.1.1.3, i.3)
-
-loop-less : tie.Need-loop-c-smaller-then-cell-ne0 invariant-loop decreases-loop
-loop-less c = search rules
-
-loop-again : tie.Need-loop-c-preserved-then-cell-ne0 invariant-loop decreases-loop
-loop-again c =
-    let i = c.loop-c.invariant in
-    let p = c.requires in
-    let t = c.loop-c-test.true in
-    let e = ap (λ a. get_or c.args.lines.now (a + c.loop-c.c) 0) c.line_start-at.ensures.0 in
-    let ends = subst (EndsAt (sorted_lines c.args.lines.now c.args.width) c.args.line.place c.loop-c.c) (sym c.end_of-end.ensures) (p.1.0 c.loop-c.c i.0 t) in (
-      omega (arith, i.0),
-      omega (arith, t),
-      writing_yes _ _ p.0.0 _ p.0.1 _ _ _ _ _ i.2 t _ e c.if-cell-ne0.true _ c.root_of-root.ensures,
-      put_length _ _ _ _ _ _ c.put_body.ensures ∙ i.3,
-      (λ ix h. words_yes _ _ p.0.0 _ p.0.1 _ _ _ _ _ i.2 t _ e c.if-cell-ne0.true _ _ _ ends refl c.root_of-root.ensures _ _ _ _ _ refl c.put_body.ensures ix (i.4 ix h)),
-    )
+    omega (arith, one_more _ _ p.0.0 _ p.0.1 _ _ _ _ _ i.2 c.loop-c-test.true _ (ap (λ a. get_or c.args.lines.now (a + c.loop-c.c) 0) c.line_start-at.ensures.0) (omega arith), p.1.1.3, i.3)
 
 loop-less-2 : tie.Need-loop-c-smaller invariant-loop decreases-loop
 loop-less-2 c = search rules
@@ -128,7 +108,7 @@ loop-again-2 c =
     let p = c.requires in
     let t = c.loop-c-test.true in
     let e = ap (λ a. get_or c.args.lines.now (a + c.loop-c.c) 0) c.line_start-at.ensures.0 in
-    (omega (arith, i.0), omega (arith, t), writing_no _ _ p.0.0 _ p.0.1 _ _ _ _ _ i.2 t _ e c.if-cell-ne0.false, i.3, i.4)
+    (omega (arith, i.0), omega (arith, t), writing_no _ _ p.0.0 _ p.0.1 _ _ _ _ _ i.2 t _ e (omega arith), i.3, i.4)
 
 same_length : tie.Need-shape_of-parents invariant-loop decreases-loop
 same_length c =
@@ -167,10 +147,21 @@ write_columns_spec =
     cast-t26
     add-t27
     sub-t28
-    cast-t29
+    (λ c. search rules)
     put-body-requires
-    loop-less
-    loop-again
+    (λ c. search rules)
+    (λ c.
+    let i = c.loop-c.invariant in
+    let p = c.requires in
+    let t = c.loop-c-test.true in
+    let e = ap (λ a. get_or c.args.lines.now (a + c.loop-c.c) 0) c.line_start-at.ensures.0 in
+    let ends = subst (EndsAt (sorted_lines c.args.lines.now c.args.width) c.args.line.place c.loop-c.c) (sym c.end_of-end.ensures) (p.1.0 c.loop-c.c i.0 t) in (
+      omega (arith, i.0),
+      omega (arith, t),
+      writing_yes _ _ p.0.0 _ p.0.1 _ _ _ _ _ i.2 t _ e (omega arith) _ c.root_of-root.ensures,
+      put_length _ _ _ _ _ _ c.put_body.ensures ∙ i.3,
+      (λ ix h. words_yes _ _ p.0.0 _ p.0.1 _ _ _ _ _ i.2 t _ e (omega arith) _ _ _ ends refl c.root_of-root.ensures _ _ _ _ _ refl c.put_body.ensures ix (i.4 ix h)),
+    ))
     loop-less-2
     loop-again-2
     same_length
