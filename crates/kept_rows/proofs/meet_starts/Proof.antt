@@ -39,17 +39,6 @@ add-p : tie.Need-overflow_add-p invariant-loop decreases-loop
 add-p c =
     omega (arith, c.loop-p-test.true, c.requires.0.few, c.loop-p.invariant.0)
 
-loop-less : tie.Need-loop-p-smaller-then-flag-ne1 invariant-loop decreases-loop
-loop-less c =
-    omega (arith, c.loop-p-test.true)
-
-loop-again : tie.Need-loop-p-preserved-then-flag-ne1 invariant-loop decreases-loop
-loop-again c =
-    let s = c in
-    let l = c.loop-p in
-    let i = l.invariant in
-    (i.0, omega (arith, c.loop-p-test.true), i.2, i.3, i.4, λ queue' flags' tail' w. i.5 queue' flags' tail' (starts_skip s.args.table.now l.queue queue' flags' l.end tail' _ l.p _ c.loop-p-test.true c.flag.ensures c.if-flag-ne1.true w))
-
 meet-requires : tie.Need-meet-end-requires invariant-loop decreases-loop
 meet-requires c κs =
     let s = c in
@@ -75,7 +64,7 @@ loop-again-2 c =
       omega (arith, i.2, m.auto),
       omega (arith, i.3, m.auto),
       m.ensures.seen,
-      λ queue' flags' tail' w. i.5 queue' flags' tail' (starts_step s.args.table.now l.queue _ queue' _ flags' l.end _ tail' _ l.p _ c.loop-p-test.true c.flag.ensures c.if-flag-ne1.false m.ensures w),
+      λ queue' flags' tail' w. i.5 queue' flags' tail' (starts_step s.args.table.now l.queue _ queue' _ flags' l.end _ tail' _ l.p _ c.loop-p-test.true c.flag.ensures (omega arith) m.ensures w),
     )
 
 same_length : tie.Need-shape_of-flags invariant-loop decreases-loop
@@ -104,8 +93,12 @@ meet_starts_spec =
     loop-holds
     flag-requires
     add-p
-    loop-less
-    loop-again
+    (λ c. omega (arith, c.loop-p-test.true))
+    (λ c.
+    let s = c in
+    let l = c.loop-p in
+    let i = l.invariant in
+    (i.0, omega (arith, c.loop-p-test.true), i.2, i.3, i.4, λ queue' flags' tail' w. i.5 queue' flags' tail' (starts_skip s.args.table.now l.queue queue' flags' l.end tail' _ l.p _ c.loop-p-test.true c.flag.ensures (omega arith) w)))
     meet-requires
     add-p-2
     loop-less-2
