@@ -5,6 +5,7 @@ ghost use Rattle.std.specs.Prelude.{◌≡◌};
 ghost use Rattle.spans.specs.Spans.{rank_refusal, span_refusal, span_part};
 
 // 13 or 14 where the index has no such rank, else 0.
+#[tactic(auto, unfolding(crate::specs::Spans::bad_rank, image::specs::Layout::bad_contents))]
 pub fn rank_refusal(index: &[u32], rank: u32) -> u32
     ensures { result ≡ rank_refusal index.now rank }
 {
@@ -22,6 +23,7 @@ pub fn rank_refusal(index: &[u32], rank: u32) -> u32
 }
 
 // 13, 14 or 15 where the rank has no span, else 0.
+#[tactic(auto, unfolding(crate::specs::Spans::bad_rank, crate::specs::Spans::bad_span, image::specs::Layout::bad_contents))]
 pub fn span_refusal(index: &[u32], rank: u32) -> u32
     ensures { result ≡ span_refusal index.now rank }
 {
