@@ -52,6 +52,7 @@ pub fn is_depth_refused(orphan: u32, depth: Depth) -> bool
 }
 
 // Whether adopt meets a top orphan or an island and there is no start row: without one every row is outside the regular paths.
+#[tactic(auto, unfolding(crate::specs::TestsLayer::lacks_start))]
 fn lacks_start(orphan: u32, table: &[u32]) -> bool
     requires { length (row_column table.now) ≤ 1024 }
     ensures { result ≡ lacks_start orphan table.now }
