@@ -30,6 +30,7 @@ pub fn totals_refusal(index: &[u32], totals: &[i64]) -> u32
 }
 
 // Whether a total is beyond 2^47 either side.
+#[tactic(auto, unfolding(crate::specs::Sums::beyond))]
 pub fn is_beyond(total: i64) -> bool
     ensures { result ≡ beyond total }
 {
@@ -84,6 +85,7 @@ pub fn subtree_sum(index: &[u32], totals: &[i64], rank: u32) -> Summed
 }
 
 // A total less another; 15 where one is beyond 2^47 or the difference leaves i32.
+#[tactic(auto, unfolding(crate::specs::Sums::bad_totals, crate::specs::Sums::leaves32))]
 fn own_minutes(last: i64, first: i64) -> Summed
     ensures { result ≡ found (bad_totals last first) (last -ℤ first) }
 {
