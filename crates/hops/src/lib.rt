@@ -26,6 +26,7 @@ struct Reach {
 }
 
 // How far the hops below a parent go.
+#[tactic(auto, unfolding(crate::specs::Hops::bad_parent, spans::specs::Spans::bad_rank, spans::specs::Spans::bad_span, image::specs::Layout::bad_contents))]
 fn reach_of(index: &[u32], parent: u32) -> Reach
     requires { bad_contents index.now ≡ false }
     ensures { result ≡ reached index.now parent }
