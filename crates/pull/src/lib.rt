@@ -32,6 +32,7 @@ fn shifted(shift: i64, difference: i64, own: bool) -> i64
 }
 
 // Whether a difference is beyond 2^50 either side.
+#[tactic(auto, unfolding(crate::specs::PullLayer::far))]
 fn is_far(difference: i64) -> bool
     ensures { result ≡ far difference }
 {
