@@ -82,7 +82,15 @@ module _ (s : List ℕ) (p : ℕ) (good : bad_contents s ≡ false) (some : p �
   unfolding bad_parent
   bad_is = simp (ne_eqb p 0 some)
 
-  -- it isn't bad where its span isn't refused
+  -- bad where its span is refused, and only there
+  pub parent_bad : (span_refusal s p ≡ 0 → ⊥) → bad_parent s p ≡ true
+  parent_bad h = bad_is ∙ go (ltb (node_count s) p) (bad_span s p) (λ e. h (span_is ∙ e))
+    where
+      go : (a b : Bool) → (cond {A = ℕ} a 14 (cond b 15 0) ≡ 0 → ⊥) → a || b ≡ true
+      go true b h = refl
+      go false true h = refl
+      go false false h = absurd (h refl)
+
   pub parent_fine : span_refusal s p ≡ 0 → bad_parent s p ≡ false
   parent_fine h = bad_is ∙ go (ltb (node_count s) p) (bad_span s p) (sym span_is ∙ h)
     where

@@ -1,12 +1,18 @@
 -- What each byte does, as `space`, `minus` and `step` tell the bytes apart. Assumes nothing.
-use Prim.Native.Nat.{ℕ, ◌≤◌, ◌<◌, ◌-◌, ◌%◌}
+use Prim.Native.Nat.{ℕ, ◌≤◌, ◌<◌, ◌+◌, ◌*◌, ◌-◌, ◌%◌}
 use mathlib.Core.Path.{◌≡◌}
 use mathlib.Core.Bool.{true, false, not}
 use borrow.Author.Tests.{lt-ltb, le-ltb, eq-eqb, ne_eqb, not-true, not-false}
-use Rattle.lines.specs.Scan.{starting, finish_of, space_of, minus_of, digit_of, step_of}
+use Rattle.lines.specs.Scan.{starting, grown, signed, finish_of, space_of, minus_of, digit_of, step_of}
 use Rattle.lines.specs.declared.Scan.{Scan}
 use Rattle.lines.specs.declared.Step.{Step}
 use Rattle.lines.specs.declared.Step.TheVariants.{More, Bad}
+
+pub digit_wide : (p : Scan) (d : ℕ) → 4294967295 < p.value * 10 + d → Bad ≡ digit_of p d
+digit_wide p d h = simp (lt-ltb _ _ h)
+
+pub digit_fits : (p : Scan) (d : ℕ) → p.value * 10 + d ≤ 4294967295 → More (grown p (p.value * 10 + d)) ≡ digit_of p d
+digit_fits p d h = simp (le-ltb _ _ h)
 
 pub space_bare : (p : Scan) → not p.digits ≡ true → Bad ≡ space_of p
 space_bare p h = simp (not-true p.digits h)
@@ -23,6 +29,19 @@ module _ (p : Scan) (s : not p.digits ≡ false) where
 
   pub space_3 : (p.field ≡ 0 → ⊥) → (p.field ≡ 1 → ⊥) → (p.field ≡ 2 → ⊥) → Bad ≡ space_of p
   space_3 z o h = simp (not-false p.digits s, ne_eqb _ _ z, ne_eqb _ _ o, ne_eqb _ _ h)
+
+pub minus_field : (p : Scan) → (p.field ≡ 3 → ⊥) → Bad ≡ minus_of p
+minus_field p h = simp (ne_eqb _ _ h)
+
+pub minus_some : (p : Scan) → p.field ≡ 3 → p.digits ≡ true → Bad ≡ minus_of p
+minus_some p f h = simp (eq-eqb _ _ f, h)
+
+pub minus_twice : (p : Scan) → p.field ≡ 3 → p.digits ≡ false → p.minus ≡ true → Bad ≡ minus_of p
+minus_twice p f s h = simp (eq-eqb _ _ f, s, h)
+
+pub minus_first : (p : Scan) → p.field ≡ 3 → p.digits ≡ false → p.minus ≡ false
+    → More (signed p) ≡ minus_of p
+minus_first p f s h = simp (eq-eqb _ _ f, s, h)
 
 module _ (p : Scan) (b : ℕ) (r : Step) where
   pub step_newline : r ≡ finish_of p → b ≡ 10 → r ≡ step_of p b

@@ -65,8 +65,11 @@ module _ (l : Load) where
 
   -- ---- a chunk
 
-  pub feed_refused : (s : List ℕ) → (l.refusal ≡ 0 → ⊥) → feed_of l s ≡ l
-  feed_refused s h = sym (feed_stopped l s (stopped_refused l h))
+  pub feed_refused : (s : List ℕ) → (l.refusal ≡ 0 → ⊥) → l ≡ feed_of l s
+  feed_refused s h = feed_stopped l s (stopped_refused l h)
+
+  pub feed_still : (s : List ℕ) → (l.refusal ≡ 0 → ⊥) → feed_of l s ≡ l
+  feed_still s h = sym (feed_refused s h)
 
   pub feed_bad : (s : List ℕ) → l.bad ≡ true → l ≡ feed_of l s
   feed_bad s h = feed_stopped l s (stopped_bad l h)

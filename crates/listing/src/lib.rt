@@ -90,7 +90,7 @@ impl Load {
 }
 
 // Goes on with the bytes of a chunk, a line at each turn.
-#[tactic(auto, using(crate::proofs::Turns::feed_refused))]
+#[tactic(auto, using(crate::proofs::Turns::feed_still))]
 pub fn feed(load: Load, chunk: &[u8]) -> Load
     ensures { result ≡ feed_of load chunk.now }
 {
