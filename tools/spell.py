@@ -69,15 +69,14 @@ def declared(files):
     for name, text in files:
         if name.endswith(".rt"):
             continue
-        lines, record = text.split("\n"), None
+        record = None
         of_function = re.search(r"/proofs/.+/(Proof|Answers|Invariants)\.antt$", name)
-        for i, line in enumerate(lines):
+        for line in text.split("\n"):
             m = DECLARED.match(line)
             if record is not None and line.strip() and len(line) - len(line.lstrip()) <= record:
                 record = None
             if not m:
                 continue
-            said = m[5] + " ".join(lines[i + 1 : i + 2])
             if of_function and re.match(r"\s*tie\.", m[5]):
                 continue
             if re.search(r"\brecord\b", m[2]):
@@ -127,9 +126,7 @@ def turn(name, text, turned, fields, code, clashes):
                 return word
         return mine[word]
 
-    if name.endswith(".rt"):
-        # clauses and imports alone: code has no such names, strings and comments stay but for the names in them
-        return TOKEN.sub(one, text)
+    # code has no such names: of a source file only clauses, imports and the names in comments change
     return TOKEN.sub(one, text)
 
 
