@@ -1,5 +1,5 @@
 -- The branches of a build of rows give the paper's answer. Assumes nothing.
-use Rattle.std.specs.Prelude.{◌≡◌, refl, ◌⊎◌, ◌≢◌, Bool, true, false, cond, not, ◌&&◌, ℕ, zero, suc, ◌≤◌, ◌<◌, eqb, ℤ, pos, length}
+use Rattle.std.specs.Prelude.{◌≡◌, refl, ◌⊎◌, ◌≢◌, Bool, true, false, cond, not, ◌&&◌, ℕ, zero, suc, ◌≤◌, ◌<◌, eqb, ℤ, pos, length, None}
 use Rattle.std.proofs.Common.{sym, ◌∙◌, inl, inr, ⊎_elim, arith, ne_eqb, eqb-true}
 use Rattle.std.proofs.Math.Path.{ap, ap₂}
 use mathlib.Core.List.{List, [], ◌∷◌, map}
@@ -8,14 +8,13 @@ use Rattle.lists.specs.MemberLaws.{filter_in, filter_out, numbers_in, numbers_ou
 use Rattle.rows.specs.declared.Row.{Row}
 use Rattle.image.specs.declared.Body.{Body}
 use Rattle.image.specs.Layout.{image_words}
-use Rattle.options.specs.declared.Depth.{Depth}
-use Rattle.options.specs.declared.Depth.TheVariants.{None}
+use Rattle.options.specs.Options.{Depth}
 use Rattle.options.specs.Options.{orphan_of, multi_of, cycle_of, choice_of}
 use Rattle.paths.specs.Forest.{memb}
 use Rattle.paths.specs.Paths.{last, Orphan, error}
 use Rattle.paths.specs.Nodes.{sorted, starts, regular, orphan_rows, tops}
 use Rattle.islands.specs.Entries.{islands}
-use Rattle.nodes.specs.Nodes.{entries_of, nodes}
+use Rattle.nodes.specs.Nodes.{entries_of}
 use Rattle.nodes.specs.Bodies.{bodies, left_of}
 use Rattle.built.specs.Room.{refusal9}
 use Rattle.nodes.specs.Refusals.{orphan_choice, is_empty, refusal6, refusal7, refusal8, refusal10, refusal11, refusal12, refusal_of}
@@ -27,7 +26,7 @@ use Rattle.nodes.proofs.LeftLaws.{accepted_leaves_none}
 use Rattle.nodes.proofs.BoundLaws.{bodies_bounded, numeral_of, named}
 use Rattle.built.specs.declared.Built.{Built}
 use Rattle.request.specs.Build.{answer_of}
-use Rattle.built.specs.RefusedLayer.{refused_by}
+use Rattle.built.specs.Answered.{refused_by}
 use Rattle.built.specs.OutcomeLaws.{attempt_refused}
 use Rattle.nodes.specs.OutcomeLayer.{paths_outcome}
 use Rattle.table.specs.TableLayer.{row_column, parent_column, numeral_column, class_column}

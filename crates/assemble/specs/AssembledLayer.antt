@@ -3,7 +3,7 @@ use Rattle.std.specs.Prelude.{◌≡◌, Bool, false, cond, List, map, ℕ, ◌�
 use Rattle.lists.specs.Lists.{front}
 use Rattle.rows.specs.declared.Row.{Row}
 use Rattle.rows.specs.declared.Days.{Days}
-use Rattle.options.specs.declared.Depth.{Depth}
+use Rattle.options.specs.Options.{Depth}
 use Rattle.options.specs.Options.{orphan_of, multi_of, cycle_of, choice_of}
 use Rattle.nodes.specs.Refusals.{orphan_choice, refusal6, refusal7, refusal10, refusal11, refusal_of}
 use Rattle.shortest.specs.Shortest.{shortest}

@@ -1,7 +1,7 @@
 -- The branches of a dated build of rows give the request's answer. Assumes nothing.
-use Rattle.std.specs.Prelude.{◌≡◌, refl, ◌≢◌, Bool, true, false, ◌&&◌, ◌||◌, ℕ, ◌+◌, ◌*◌, ◌≤◌, ◌<◌, eqb, ℤ, get_or}
+use Rattle.std.specs.Prelude.{◌≡◌, ◌≢◌, Bool, true, false, ◌&&◌, ◌||◌, ℕ, ◌*◌, ◌≤◌, ◌<◌, eqb, ℤ}
 use Rattle.std.proofs.Math.Path.{sym, ap}
-use Rattle.std.proofs.Common.{ap₂, subst, ◌∙◌, true≢false, arith}
+use Rattle.std.proofs.Common.{subst, ◌∙◌, true≢false, arith}
 use Rattle.std.proofs.Math.Logic.{⊎_elim}
 use Rattle.std.proofs.Math.Bool.{cond, not}
 use mathlib.Core.List.{List}
@@ -15,7 +15,7 @@ use Rattle.rows.specs.declared.Days.{Days}
 use Rattle.image.specs.declared.Body.{Body}
 use Rattle.image.specs.ImageLayer.{HoldsImage}
 use Rattle.image.specs.ImageLaws.{holds_front}
-use Rattle.options.specs.declared.Depth.{Depth}
+use Rattle.options.specs.Options.{Depth}
 use Rattle.options.specs.declared.Choice.{Choice}
 use Rattle.options.specs.Options.{multi_of, cycle_of, choice_of}
 use Rattle.forest.specs.Nodes.{last}
@@ -32,7 +32,7 @@ use Rattle.dated_walk.specs.DatedWalkLayer.{KeptFrom}
 use Rattle.dated_nodes.specs.DatedNodesLayer.{DaysPass, day_pairs}
 use Rattle.dated_nodes.specs.WalkedDatedLaws.{days_at, days_passed, day_words}
 use Rattle.built.specs.declared.Built.{Built}
-use Rattle.built.specs.RefusedLayer.{refused_by}
+use Rattle.built.specs.Answered.{refused_by}
 use Rattle.built.specs.OutcomeLayer.{Attempted}
 use Rattle.built.specs.OutcomeLaws.{attempt_refused}
 use Rattle.refusals.specs.TestsLayer.{lacks_start, early_refusal, dated_capacity_of}

@@ -19,7 +19,7 @@ use Rattle.shortest.specs.OutcomeLayer.{shortest_outcome}
 use Rattle.shortest.proofs.ShortestLaws.{shortest_is, kept_row, bodies_length, left_bodies, totals_bodies}
 use Rattle.built.specs.declared.Built.{Built}
 use Rattle.built.specs.Room.{refusal9}
-use Rattle.built.specs.RefusedLayer.{refused_by}
+use Rattle.built.specs.Answered.{refused_by}
 use Rattle.built.specs.OutcomeLaws.{attempt_refused}
 use Rattle.refusals.specs.TestsLayer.{lacks_start, early_refusal}
 use Rattle.refusals.specs.TestsLaws.{early_met}

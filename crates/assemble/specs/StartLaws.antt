@@ -1,5 +1,5 @@
 -- The test of refusal 8: no start row, and a top orphan or an island. Assumes nothing.
-use Rattle.std.specs.Prelude.{◌≡◌, refl, true, false, ◌&&◌, ◌||◌, ℕ, suc, ◌<◌, ltb, length, get_or}
+use Rattle.std.specs.Prelude.{◌≡◌, refl, true, false, ◌&&◌, ◌||◌, ℕ, suc, ◌<◌, ltb, length, get_or, None}
 use Rattle.std.proofs.Common.{sym, ap₂, ◌∙◌, arith, zero-add, lt-ltb}
 use Rattle.std.proofs.Math.Path.{ap}
 use Rattle.std.proofs.Math.Bool.{Bool, not, and-true, and-false}
@@ -11,8 +11,7 @@ use Rattle.lists.specs.Lists.{filter, keep, numbers, any}
 use Rattle.lists.specs.StoreLaws.{get_or_mapped}
 use Rattle.lists.specs.CountingLaws.{any_positions}
 use Rattle.rows.specs.declared.Row.{Row}
-use Rattle.options.specs.declared.Depth.{Depth}
-use Rattle.options.specs.declared.Depth.TheVariants.{None}
+use Rattle.options.specs.Options.{Depth}
 use Rattle.options.specs.Options.{level_limit}
 use Rattle.paths.specs.Forest.{memb, forest}
 use Rattle.paths.proofs.ForestLaws.{forest_nil}

@@ -1,10 +1,9 @@
 // The build of rows in working slices: prepared, enumerated, finished.
 #![tactic(auto)]
 
-ghost use Rattle.std.specs.Prelude.{◌≡◌, Bool, false, List, ℕ, ◌*◌, ◌≤◌, ◌<◌, length, take};
+ghost use Rattle.std.specs.Prelude.{◌≡◌, Bool, false, List, ℕ, ◌*◌, ◌≤◌, ◌<◌, length, take, None};
 ghost use Rattle.rows.specs.declared.Row.{Row};
 ghost use Rattle.options.specs.Options.{orphan_of, choice_of};
-ghost use Rattle.options.specs.declared.Depth.TheVariants.{None};
 ghost use Rattle.paths.specs.Nodes.{starts, tops};
 ghost use Rattle.islands.specs.Entries.{islands};
 ghost use Rattle.nodes.specs.Refusals.{refusal6, refusal7, refusal8};
@@ -14,26 +13,28 @@ ghost use Rattle.ordering.specs.OrderingLayer.{spans_of};
 ghost use Rattle.links.specs.PreparedLayer.{WithNumerals};
 ghost use Rattle.refusals.specs.TestsLayer.{capacity_of, dated_capacity_of};
 ghost use Rattle.enumerate.specs.EnumerateLayer.{ClearWorkspace};
+ghost use Rattle.built.specs.Answered.{built};
 ghost use Rattle.assemble.specs.AssembledLayer.{RowsBuilt, ShortestRowsBuilt, DatedRowsBuilt, Placeable, RowsPlaced, SpansRead, dated_rows, PreparedRows, AnyPreparedRows, AnyRead};
 ghost use Rattle.assemble.specs.declared.Placement.TheVariants.{Dated};
 
-use built::Built;
-use options::{Choice, Depth};
+use built::Counts;
+use options::Choice;
+use refusal::Refusal;
 use request::Start;
 use rows::{Days, Row};
 
 // Which paths of the rows are nodes: all of them, by these choices and this depth, for each numeral the shortest alone, or by choices and a depth those with days left in a window.
 #[derive(Clone, Copy)]
 pub enum Placement {
-    AllPaths(Choice, Depth),
+    AllPaths(Choice, Option<i32>),
     Shortest,
-    Dated(Choice, Depth, Days),
+    Dated(Choice, Option<i32>, Days),
 }
 
 // Enumerates the nodes and finishes the build of rows that are prepared. Where it is refused, both slices may hold anything.
 fn write_nodes(
     choice: Choice,
-    depth: Depth,
+    depth: Option<i32>,
     cap: u32,
     minutes: &[i32],
     table: &mut [u32],
@@ -41,15 +42,15 @@ fn write_nodes(
     marks: &mut [u32],
     index: &mut [u32],
     totals: &mut [i64],
-) -> Built
+) -> Result<Counts, Refusal>
     requires any_prepared_rows { AnyPreparedRows table.old minutes.now }
     requires orphan_bound { (choice.orphan ≤ 3) × (1 < choice.orphan → depth ≡ None) × (8 ≤ length index.old) × (1 ≤ length totals.old) × (cap ≡ capacity_of (length index.old) (length totals.old)) }
     requires clear_workspace { ClearWorkspace (length (row_column table.old)) reached.old marks.old }
-    ensures { (R : List Row) (start : Row → Bool) (code : ℕ) → PreparedRows R start table.old minutes.now → choice ≡ choice_of code → refusal6 code ≡ false → refusal7 (orphan_of code) depth ≡ false → refusal8 (orphan_of code) (tops R start depth) (islands R start) (starts R start) ≡ false → RowsBuilt R code depth start index.old index.new totals.old totals.new result }
+    ensures { (R : List Row) (start : Row → Bool) (code : ℕ) → PreparedRows R start table.old minutes.now → choice ≡ choice_of code → refusal6 code ≡ false → refusal7 (orphan_of code) depth ≡ false → refusal8 (orphan_of code) (tops R start depth) (islands R start) (starts R start) ≡ false → RowsBuilt R code depth start index.old index.new totals.old totals.new (built result) }
 {
     let progress = enumerate::enumerate(choice.orphan, depth, cap, table, reached, marks, index);
     if cap < progress.count {
-        return built::refused(9);
+        return Err(Refusal::TooManyNodes);
     }
     finish::finish(choice, progress, minutes, table, reached, index, totals)
 }
@@ -57,23 +58,20 @@ fn write_nodes(
 // The build over all paths of rows that are prepared. Where it is refused, both slices may hold anything.
 fn place_paths(
     choice: Choice,
-    depth: Depth,
+    depth: Option<i32>,
     minutes: &[i32],
     table: &mut [u32],
     reached: &mut [u32],
     marks: &mut [u32],
     index: &mut [u32],
     totals: &mut [i64],
-) -> Built
+) -> Result<Counts, Refusal>
     requires any_prepared_rows { AnyPreparedRows table.old minutes.now }
     requires orphan_bound { (choice.orphan ≤ 3) × (refusal7 choice.orphan depth ≡ false) }
     requires clear_workspace { ClearWorkspace (length (row_column table.old)) reached.old marks.old }
-    ensures { (R : List Row) (start : Row → Bool) (code : ℕ) → PreparedRows R start table.old minutes.now → choice ≡ choice_of code → refusal6 code ≡ false → RowsBuilt R code depth start index.old index.new totals.old totals.new result }
+    ensures { (R : List Row) (start : Row → Bool) (code : ℕ) → PreparedRows R start table.old minutes.now → choice ≡ choice_of code → refusal6 code ≡ false → RowsBuilt R code depth start index.old index.new totals.old totals.new (built result) }
 {
-    let refusal = refusals::early_refusal(choice.orphan, table, index.len(), totals.len());
-    if refusal != 0 {
-        return built::refused(refusal);
-    }
+    refusals::check_room(choice.orphan, table, index.len(), totals.len())?;
     let cap = refusals::capacity(index.len(), totals.len());
     write_nodes(
         choice, depth, cap, minutes, table, reached, marks, index, totals,
@@ -89,15 +87,15 @@ fn write_shortest(
     marks: &mut [u32],
     index: &mut [u32],
     totals: &mut [i64],
-) -> Built
+) -> Result<Counts, Refusal>
     requires any_prepared_rows { AnyPreparedRows table.old minutes.now }
     requires in_bounds { (8 ≤ length index.old) × (1 ≤ length totals.old) × (cap ≡ capacity_of (length index.old) (length totals.old)) }
     requires clear_workspace { ClearWorkspace (length (row_column table.old)) reached.old marks.old }
-    ensures { (R : List Row) (start : Row → Bool) → PreparedRows R start table.old minutes.now → ShortestRowsBuilt R start index.old index.new totals.old totals.new result }
+    ensures { (R : List Row) (start : Row → Bool) → PreparedRows R start table.old minutes.now → ShortestRowsBuilt R start index.old index.new totals.old totals.new (built result) }
 {
     let progress = kept_rows::walk_shortest(cap, table, reached, marks, index);
     if cap < progress.count {
-        return built::refused(9);
+        return Err(Refusal::TooManyNodes);
     }
     let none = Choice {
         orphan: 0,
@@ -115,15 +113,12 @@ fn place_shortest(
     marks: &mut [u32],
     index: &mut [u32],
     totals: &mut [i64],
-) -> Built
+) -> Result<Counts, Refusal>
     requires any_prepared_rows { AnyPreparedRows table.old minutes.now }
     requires clear_workspace { ClearWorkspace (length (row_column table.old)) reached.old marks.old }
-    ensures { (R : List Row) (start : Row → Bool) → PreparedRows R start table.old minutes.now → ShortestRowsBuilt R start index.old index.new totals.old totals.new result }
+    ensures { (R : List Row) (start : Row → Bool) → PreparedRows R start table.old minutes.now → ShortestRowsBuilt R start index.old index.new totals.old totals.new (built result) }
 {
-    let refusal = refusals::early_refusal(0, table, index.len(), totals.len());
-    if refusal != 0 {
-        return built::refused(refusal);
-    }
+    refusals::check_room(0, table, index.len(), totals.len())?;
     let cap = refusals::capacity(index.len(), totals.len());
     write_shortest(cap, minutes, table, reached, marks, index, totals)
 }
@@ -131,7 +126,7 @@ fn place_shortest(
 // Walks the paths with days left and finishes the build of rows that are prepared. Where it is refused, the slices may hold anything.
 fn write_dated(
     choice: Choice,
-    depth: Depth,
+    depth: Option<i32>,
     window: Days,
     cap: u32,
     minutes: &[i32],
@@ -142,28 +137,25 @@ fn write_dated(
     index: &mut [u32],
     totals: &mut [i64],
     days: &mut [u32],
-) -> Built
+) -> Result<Counts, Refusal>
     requires any_read { AnyRead (Dated choice depth window) table.old minutes.now spans.now }
     requires orphan_value { (choice.orphan ≡ 0) × (8 ≤ length index.old) × (1 ≤ length totals.old) × (cap ≡ dated_capacity_of (length index.old) (length totals.old) (length days.old)) }
     requires clear_workspace { ClearWorkspace (length (row_column table.old)) reached.old marks.old }
-    ensures { (R : List Row) (start : Row → Bool) (code : ℕ) → PreparedRows R start table.old minutes.now → spans.now ≡ spans_of R → choice ≡ choice_of code → DatedRowsBuilt R code depth start window index.old index.new totals.old totals.new days.old days.new result }
+    ensures { (R : List Row) (start : Row → Bool) (code : ℕ) → PreparedRows R start table.old minutes.now → spans.now ≡ spans_of R → choice ≡ choice_of code → DatedRowsBuilt R code depth start window index.old index.new totals.old totals.new days.old days.new (built result) }
 {
     let progress = dated_nodes::walk_dated(window, depth, cap, spans, table, marks, index, days);
     if cap < progress.count {
-        return built::refused(9);
+        return Err(Refusal::TooManyNodes);
     }
-    let built = finish::finish(choice, progress, minutes, table, reached, index, totals);
-    if built.refusal != 0 {
-        return built;
-    }
+    let counts = finish::finish(choice, progress, minutes, table, reached, index, totals)?;
     dated_nodes::fill_days(window, progress.count as usize, spans, index, days);
-    built
+    Ok(counts)
 }
 
 // The dated build of rows that are prepared. Where it is refused, the slices may hold anything.
 fn place_dated(
     choice: Choice,
-    depth: Depth,
+    depth: Option<i32>,
     window: Days,
     minutes: &[i32],
     spans: &[u32],
@@ -173,16 +165,13 @@ fn place_dated(
     index: &mut [u32],
     totals: &mut [i64],
     days: &mut [u32],
-) -> Built
+) -> Result<Counts, Refusal>
     requires any_read { AnyRead (Dated choice depth window) table.old minutes.now spans.now }
     requires orphan_value { choice.orphan ≡ 0 }
     requires clear_workspace { ClearWorkspace (length (row_column table.old)) reached.old marks.old }
-    ensures { (R : List Row) (start : Row → Bool) (code : ℕ) → PreparedRows R start table.old minutes.now → spans.now ≡ spans_of R → choice ≡ choice_of code → DatedRowsBuilt R code depth start window index.old index.new totals.old totals.new days.old days.new result }
+    ensures { (R : List Row) (start : Row → Bool) (code : ℕ) → PreparedRows R start table.old minutes.now → spans.now ≡ spans_of R → choice ≡ choice_of code → DatedRowsBuilt R code depth start window index.old index.new totals.old totals.new days.old days.new (built result) }
 {
-    let refusal = refusals::early_refusal(0, table, index.len(), totals.len());
-    if refusal != 0 {
-        return built::refused(refusal);
-    }
+    refusals::check_room(0, table, index.len(), totals.len())?;
     let cap = refusals::dated_capacity(index.len(), totals.len(), days.len());
     write_dated(
         choice, depth, window, cap, minutes, spans, table, reached, marks, index, totals, days,
@@ -200,11 +189,11 @@ fn place_nodes(
     index: &mut [u32],
     totals: &mut [i64],
     days: &mut [u32],
-) -> Built
+) -> Result<Counts, Refusal>
     requires any_read { AnyRead placement table.old minutes.now spans.now }
     requires placeable { Placeable placement }
     requires clear_workspace { ClearWorkspace (length (row_column table.old)) reached.old marks.old }
-    ensures { (R : List Row) (start : Row → Bool) → PreparedRows R start table.old minutes.now → SpansRead placement R spans.now → RowsPlaced placement R start index.old index.new totals.old totals.new days.old days.new result }
+    ensures { (R : List Row) (start : Row → Bool) → PreparedRows R start table.old minutes.now → SpansRead placement R spans.now → RowsPlaced placement R start index.old index.new totals.old totals.new days.old days.new (built result) }
 {
     match placement {
         Placement::AllPaths(choice, depth) => place_paths(
@@ -228,8 +217,8 @@ fn dated_rows(placement: Placement, n: usize) -> usize
     }
 }
 
-// The build of at most 64 rows, in working arrays of its own.
-fn build_few(
+// The build of at most ROWS rows, in working arrays of its own: a table of eight cells a row, and two words of days a row.
+fn build_within<const ROWS: usize, const CELLS: usize, const DAYS: usize>(
     rows: [Row; 1024],
     n: usize,
     placement: Placement,
@@ -238,16 +227,17 @@ fn build_few(
     index: &mut [u32],
     totals: &mut [i64],
     days: &mut [u32],
-) -> Built
-    requires { (n ≤ 64) × Placeable placement × WithNumerals (take n rows) }
-    ensures { RowsPlaced placement (take n rows) (start_rule start list.now) index.old index.new totals.old totals.new days.old days.new result }
+) -> Result<Counts, Refusal>
+    requires sizes { (n ≤ ROWS) × (ROWS ≤ 1024) × (8 * ROWS ≤ CELLS) × (CELLS ≤ 8192) × (2 * ROWS ≤ DAYS) × (DAYS ≤ 2048) }
+    requires rows_placeable { Placeable placement × WithNumerals (take n rows) }
+    ensures { RowsPlaced placement (take n rows) (start_rule start list.now) index.old index.new totals.old totals.new days.old days.new (built result) }
 {
-    let mut table = [0u32; 512];
-    let mut minutes = [0i32; 64];
-    let mut keys = [0u64; 64];
-    let mut fields = [0u64; 64];
-    let mut scratch = [0u64; 64];
-    let mut spans = [0u32; 128];
+    let mut table = [0u32; CELLS];
+    let mut minutes = [0i32; ROWS];
+    let mut keys = [0u64; ROWS];
+    let mut fields = [0u64; ROWS];
+    let mut scratch = [0u64; ROWS];
+    let mut spans = [0u32; DAYS];
     let m = 8 * n;
     let dated = dated_rows(placement, n);
     let d = 2 * dated;
@@ -267,62 +257,8 @@ fn build_few(
         &mut fields[..n],
         &mut scratch[..n],
     );
-    let mut reached = [0u32; 64];
-    let mut marks = [0u32; 64];
-    place_nodes(
-        placement,
-        &minutes[..n],
-        &spans[..d],
-        &mut table[..m],
-        &mut reached[..n],
-        &mut marks[..n],
-        index,
-        totals,
-        days,
-    )
-}
-
-// The build of n rows, in working arrays of its own.
-fn build_many(
-    rows: [Row; 1024],
-    n: usize,
-    placement: Placement,
-    start: Start,
-    list: &[u32],
-    index: &mut [u32],
-    totals: &mut [i64],
-    days: &mut [u32],
-) -> Built
-    requires { (n ≤ 1024) × Placeable placement × WithNumerals (take n rows) }
-    ensures { RowsPlaced placement (take n rows) (start_rule start list.now) index.old index.new totals.old totals.new days.old days.new result }
-{
-    let mut table = [0u32; 8192];
-    let mut minutes = [0i32; 1024];
-    let mut keys = [0u64; 1024];
-    let mut fields = [0u64; 1024];
-    let mut scratch = [0u64; 1024];
-    let mut spans = [0u32; 2048];
-    let m = 8 * n;
-    let dated = dated_rows(placement, n);
-    let d = 2 * dated;
-    ordering::read_rows(
-        rows,
-        dated,
-        &mut minutes[..n],
-        &mut keys[..n],
-        &mut fields[..n],
-        &mut spans[..d],
-    );
-    links::prepare(
-        start,
-        list,
-        &mut table[..m],
-        &mut keys[..n],
-        &mut fields[..n],
-        &mut scratch[..n],
-    );
-    let mut reached = [0u32; 1024];
-    let mut marks = [0u32; 1024];
+    let mut reached = [0u32; ROWS];
+    let mut marks = [0u32; ROWS];
     place_nodes(
         placement,
         &minutes[..n],
@@ -346,12 +282,12 @@ pub fn build_rows(
     index: &mut [u32],
     totals: &mut [i64],
     days: &mut [u32],
-) -> Built
+) -> Result<Counts, Refusal>
     requires { (n ≤ 1024) × Placeable placement × WithNumerals (take n rows) }
-    ensures { RowsPlaced placement (take n rows) (start_rule start list.now) index.old index.new totals.old totals.new days.old days.new result }
+    ensures { RowsPlaced placement (take n rows) (start_rule start list.now) index.old index.new totals.old totals.new days.old days.new (built result) }
 {
     if n <= 64 {
-        return build_few(rows, n, placement, start, list, index, totals, days);
+        return build_within::<64, 512, 128>(rows, n, placement, start, list, index, totals, days);
     }
-    build_many(rows, n, placement, start, list, index, totals, days)
+    build_within::<1024, 8192, 2048>(rows, n, placement, start, list, index, totals, days)
 }

@@ -13,6 +13,7 @@ use Rattle.rows.specs.declared.Entry.{Entry}
 use Rattle.board.specs.declared.Board.{Board}
 use Rattle.rows.specs.Journal.{all_numbered, is_there, carried, inverse, doable, blank}
 use Rattle.board.specs.Edits.{rows_of}
+use Rattle.board.specs.CarriedLayer.{carried_out}
 use Rattle.board.specs.Laws.{count_rows, old_row}
 
 module _ (b : Board) (e : Entry) (l : length b.rows ≡ 1024) (n : b.count ≤ 1024) (d : doable e (rows_of b) ≡ true) where
@@ -97,6 +98,32 @@ module _ (b : Board) (e : Entry) (l : length b.rows ≡ 1024) (n : b.count ≤ 1
       pub set_back : ◌≡◌ {A = Entry} (record { kind = 2; at = e.at; row = get_or b.rows e.at blank }) (inverse e (rows_of b))
       unfolding inverse
       set_back = rw (ne_eqb e.kind 0 k₀, ne_eqb e.kind 1 k₁) (λ i. record { kind = 2; at = e.at; row = sym (old_row b e.at at_place) i })
+
+  -- it is of one of the kinds
+  pub has_kind : e.kind ≤ 2
+  unfolding is_there
+  has_kind = go (eqb e.kind 0) (eqb e.kind 1) (eqb e.kind 2) refl refl refl where
+    go : (s t u : Bool) → eqb e.kind 0 ≡ s → eqb e.kind 1 ≡ t → eqb e.kind 2 ≡ u → e.kind ≤ 2
+    go true t u f g h = omega (arith, eqb-true e.kind 0 f)
+    go false true u f g h = omega (arith, eqb-true e.kind 1 g)
+    go false false true f g h = omega (arith, eqb-true e.kind 2 h)
+    go false false false f g h = absurd (false≢true (rw (f, g, h) at is_there_lem))
+
+  -- the place of a row that is taken out
+  pub out_place : e.kind ≡ 0 → e.at < b.count
+  out_place k₀ = at_place (λ k₁. omega (arith, k₀, k₁))
+
+  -- the board after each kind
+  pub taken_out : e.kind ≡ 0 → ◌≡◌ {A = Board} (record { count = b.count - 1; rows = moved_up b.rows e.at (b.count - 1); kept = b.kept; undone = b.undone; journal = b.journal }) (carried_out e b)
+  taken_out k₀ =
+      let k₁ : e.kind ≡ 1 → ⊥ = λ h. omega (arith, h, k₀) in
+      λ i. record { count = out_count k₁ k₀ i; rows = out_rows k₁ k₀ i; kept = b.kept; undone = b.undone; journal = b.journal }
+
+  pub put_there : e.kind ≡ 1 → ◌≡◌ {A = Board} (record { count = b.count + 1; rows = set (moved_down b.rows e.at b.count) e.at e.row; kept = b.kept; undone = b.undone; journal = b.journal }) (carried_out e b)
+  put_there k₁ = λ i. record { count = in_count k₁ i; rows = in_rows k₁ i; kept = b.kept; undone = b.undone; journal = b.journal }
+
+  pub set_there : (e.kind ≡ 0 → ⊥) → (e.kind ≡ 1 → ⊥) → ◌≡◌ {A = Board} (record { count = b.count; rows = set b.rows e.at e.row; kept = b.kept; undone = b.undone; journal = b.journal }) (carried_out e b)
+  set_there k₀ k₁ = λ i. record { count = set_count k₁ k₀ i; rows = set_rows k₁ k₀ i; kept = b.kept; undone = b.undone; journal = b.journal }
 
   -- the inverse that the code makes, and the place that it names
   pub turned : ◌≡◌ {A = Entry} (cond (eqb e.kind 0) (record { kind = 1; at = e.at; row = get_or b.rows e.at blank })

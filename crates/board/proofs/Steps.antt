@@ -1,4 +1,4 @@
--- What a call does by its numbers: the entry that it carries out, the turns of the loops, and the tape after it. Assumes nothing.
+-- What a call does by its numbers: the entry that it carries out, and the tape after it. Assumes nothing.
 use mathlib.Core.Path.{◌≡◌, refl, sym, ap, ◌∙◌, subst}
 use Prim.Native.Nat.{ℕ, zero, suc, ◌+◌, ◌-◌, ◌≤◌, ◌<◌}
 use native.Mathlib.Omega.{arith}
@@ -11,21 +11,20 @@ use lib.Dec.{leb, ltb, eqb}
 use borrow.Author.Tests.{le-leb, lt-ltb, le-ltb, ltb-true, ltb-false, eqb-false}
 use Rattle.lists.specs.Lists.{front}
 use Rattle.lists.specs.ChoiceLaws.{cond_none}
-use Rattle.lists.specs.MoveLaws.{moved_up, moved_up_start, moved_up_step, moved_down, moved_down_step}
+use Rattle.lists.specs.MoveLaws.{moved_up, moved_up_start}
 use Rattle.lists.specs.FrontLaws.{store_front, shift_front}
 use Rattle.rows.specs.declared.Row.{Row}
 use Rattle.rows.specs.declared.Entry.{Entry}
 use Rattle.board.specs.declared.Board.{Board}
-use Rattle.plans.specs.declared.Plan.{Plan}
 use Rattle.rows.specs.declared.Call.{Call}
 use Rattle.rows.specs.declared.Call.TheVariants.{Add, Withdraw, Remark, Undo, Redo}
 use Rattle.rows.specs.Days.{first_after_last}
-use Rattle.rows.specs.Journal.{carried, inverse, pushed, blank, no_entry, no_row, remarked}
+use Rattle.rows.specs.Journal.{inverse, pushed, blank, no_entry, no_row, remarked}
 use Rattle.board.specs.Edits.{rows_of, kept_of, undone_of, newest_of, next_of, sound_of, add_refusal, row_refusal, undo_refusal, redo_refusal}
-use Rattle.plans.specs.PlanLayer.{at_most_256, room_after, moves_for, place_named, entry_chosen, row_chosen, change_plan, plan_of, judged_plan}
+use Rattle.plans.specs.PlanLayer.{Plan, at_most_256, room_after, moves_for, place_named, entry_chosen, row_chosen, change_plan, plan_of, judged_plan}
 use Rattle.plans.specs.PlanLaws.{at_most_le, room_less}
 use Rattle.board.specs.Laws.{count_kept, count_undone, sound_count, sound_kept, sound_undone}
-use Rattle.board.specs.OperationLaws.{refusal_by, operation, kept_after, undone_after, board_after, row_there}
+use Rattle.board.specs.OperationLaws.{refusal_by, operation, kept_after, undone_after, row_there}
 
 -- ---- the numbers
 
@@ -259,43 +258,3 @@ planned b c s lj q y e =
     let d = plan_of c b.count b.kept b.undone in
     let own : d.refusal ≡ 0 = sym (ap (λ (x : Plan). x.refusal) q ∙ ap (λ (t : Bool). cond t d.refusal 1) y) ∙ e in
     subst (λ (x : Plan). Planned b c x) (sym q) (judged_planned b c (sound_of b) d (planned_by b c lj y own))
-
--- ---- the board in the loops, y after some turns and the one after the next
-
--- b with its rows stored anew
-abbrev pub stored : Board → List Row → Board
-stored b p = record { count = b.count; rows = p; kept = b.kept; undone = b.undone; journal = b.journal }
-
--- b with its tape stored anew
-abbrev pub taped : Board → List Entry → Board
-taped b j = record { count = b.count; rows = b.rows; kept = b.kept; undone = b.undone; journal = j }
-
--- b once the first places of its tape have moved up
-abbrev pub shifted : Board → ℕ → Board
-shifted b m = taped b (moved_up b.journal 0 m)
-
-pub shift_turn : (b y : Board) (m : ℕ) → y ≡ shifted b m → suc m < length b.journal → taped y (set y.journal m (get_or y.journal (m + 1) no_entry)) ≡ shifted b (m + 1)
-shift_turn b y m e h =
-    ap (λ (x : Board). taped x (set x.journal m (get_or x.journal (m + 1) no_entry))) e
-    ∙ ap (λ (j : List Entry). taped b j) (moved_up_step b.journal 0 m no_entry (omega arith) h)
-
-pub up_turn : (b y : Board) (at j : ℕ) → y ≡ stored b (moved_up b.rows at j) → at ≤ j → suc j < length b.rows
-    → stored y (set y.rows j (get_or y.rows (j + 1) blank)) ≡ stored b (moved_up b.rows at (j + 1))
-up_turn b y at j e g h =
-    ap (λ (x : Board). stored x (set x.rows j (get_or x.rows (j + 1) blank))) e
-    ∙ ap (λ (p : List Row). stored b p) (moved_up_step b.rows at j blank g h)
-
-pub down_turn : (b y : Board) (k n : ℕ) → y ≡ stored b (moved_down b.rows k n) → 0 < k → k ≤ n → n < length b.rows
-    → stored y (set y.rows k (get_or y.rows (k - 1) blank)) ≡ stored b (moved_down b.rows (k - 1) n)
-down_turn b y k n e z g h =
-    ap (λ (x : Board). stored x (set x.rows k (get_or x.rows (k - 1) blank))) e
-    ∙ ap (λ (p : List Row). stored b p) (moved_down_step b.rows k n blank z g h)
-
--- ---- the board that it leaves
-
-pub finished : (b x : Board) (c : Call) (s : Plan) → Planned b c s → x ≡ shifted b s.moves → (n : ℕ) (f : List Row → List Row) (e : Entry)
-    → n ≡ length (carried (operation b c) (rows_of b)) → f b.rows ≡ front (carried (operation b c) (rows_of b)) b.rows → e ≡ inverse (operation b c) (rows_of b)
-    → ◌≡◌ {A = Board} (record { count = n; rows = f x.rows; kept = s.kept; undone = s.undone; journal = set x.journal s.place e }) (board_after b c)
-finished b x c s p q n f e hn hf he =
-    ap (λ (y : Board). record { count = n; rows = f y.rows; kept = s.kept; undone = s.undone; journal = set y.journal s.place e }) q
-    ∙ (λ i. record { count = hn i; rows = hf i; kept = p.kept_after_lem i; undone = p.undone_after_lem i; journal = (ap (λ (y : Entry). set (moved_up b.journal 0 s.moves) s.place y) he ∙ p.tape) i })

@@ -1,11 +1,13 @@
 -- What a build of a board comes to by what is asked of it, and what it answers and leaves before a refused one is cleared. Assumes nothing: these are definitions.
-use Rattle.std.specs.Prelude.{◌≡◌, Bool, cond, List, ℕ, ℤ, length}
+use Rattle.std.specs.Prelude.{◌≡◌, Bool, cond, List, ℕ, ℤ, length, Result, Ok, Err}
+use Rattle.refusal.specs.declared.Refusal.{Refusal}
+use Rattle.refusal.specs.declared.Refusal.TheVariants.{UnknownCode, DepthWithOrphans, NoDays}
 use Rattle.lists.specs.Lists.{front}
 use Rattle.rows.specs.declared.Row.{Row}
 use Rattle.rows.specs.declared.Days.{Days}
 use Rattle.board.specs.declared.Board.{Board}
 use Rattle.board.specs.Edits.{rows_of}
-use Rattle.options.specs.declared.Depth.{Depth}
+use Rattle.options.specs.Options.{Depth}
 use Rattle.options.specs.Options.{orphan_of, choice_of}
 use Rattle.built.specs.declared.Built.{Built}
 use Rattle.built.specs.OutcomeLayer.{Outcome, Attempted}
@@ -16,25 +18,17 @@ use Rattle.shortest.specs.OutcomeLayer.{shortest_outcome}
 use Rattle.dated.specs.Dated.{refusal20, dated_refusal7, node_days, dated_refusal}
 use Rattle.dated.specs.OutcomeLayer.{dated_outcome}
 use Rattle.request.specs.Build.{build_refusal}
+use Rattle.assemble.specs.declared.Placement.{Placement}
 use Rattle.assemble.specs.declared.Placement.TheVariants.{AllPaths, Shortest, Dated}
 use Rattle.build.specs.declared.Asked.{Asked}
 use Rattle.build.specs.declared.Asked.TheVariants.{ByCode, ByShortest, ByDays}
-use Rattle.build.specs.declared.Judged.{Judged}
 
--- refusal 6 or 7 or 0, and where it is 0 the choices of the code
-pub record CodeJudged (code : ℕ) (depth : Depth) (r : Judged) : Type 0 where
-  pub refusal_is : r.refusal ≡ cond (refusal6 code) 6 (cond (refusal7 (orphan_of code) depth) 7 0)
-  pub placement_is : r.refusal ≡ 0 → r.placement ≡ AllPaths (choice_of code) depth
-
--- refusal 6, 20 or 7 or 0, and where it is 0 the choices of the code
-pub record DaysJudged (code : ℕ) (depth : Depth) (window : Days) (r : Judged) : Type 0 where
-  pub refusal_is : r.refusal ≡ cond (refusal6 code) 6 (cond (refusal20 window) 20 (cond (dated_refusal7 (orphan_of code)) 7 0))
-  pub placement_is : r.refusal ≡ 0 → r.placement ≡ Dated (choice_of code) depth window
-
-abbrev pub AskedJudged : Asked → Judged → Type 0
-AskedJudged (ByCode code depth) r = CodeJudged code depth r
-AskedJudged ByShortest r = r ≡ record { refusal = 0; placement = Shortest }
-AskedJudged (ByDays code depth window) r = DaysJudged code depth window r
+-- what comes of what is asked: refusal 6, 20 or 7, or the choices of the code
+abbrev pub judged : Asked → Result Placement Refusal
+judged (ByCode code depth) = cond (refusal6 code) (Err UnknownCode) (cond (refusal7 (orphan_of code) depth) (Err DepthWithOrphans) (Ok (AllPaths (choice_of code) depth)))
+judged ByShortest = Ok Shortest
+judged (ByDays code depth window) =
+    cond (refusal6 code) (Err UnknownCode) (cond (refusal20 window) (Err NoDays) (cond (dated_refusal7 (orphan_of code)) (Err DepthWithOrphans) (Ok (Dated (choice_of code) depth window))))
 
 -- what the build makes, the days of its nodes, and its refusal
 abbrev pub asked_outcome : Asked → Board → (Row → Bool) → Outcome

@@ -1,5 +1,5 @@
 -- The branches of a build give the papers' answer. Assumes nothing.
-use Rattle.std.specs.Prelude.{◌≡◌, ◌≢◌, Bool, not, List, ℕ, zero, suc, eqb, ℤ, length, get_or, replicate}
+use Rattle.std.specs.Prelude.{◌≡◌, ◌≢◌, Result, Ok, Err, Bool, not, List, ℕ, zero, suc, eqb, ℤ, length, get_or, replicate}
 use Rattle.std.proofs.Math.Path.{refl, sym, ap}
 use Rattle.std.proofs.Common.{ap₂, subst, ◌∙◌, arith, ltb-false, eqb-true, ne_eqb}
 use Rattle.std.proofs.Math.Bool.{true, false, cond}
@@ -13,89 +13,50 @@ use Rattle.rows.specs.declared.Days.{Days}
 use Rattle.board.specs.declared.Board.{Board}
 use Rattle.board.specs.Edits.{rows_of, sound_of}
 use Rattle.board.specs.Laws.{sound_numeral}
-use Rattle.options.specs.declared.Depth.{Depth}
+use Rattle.options.specs.Options.{Depth}
 use Rattle.options.specs.declared.Choice.{Choice}
 use Rattle.options.specs.Options.{orphan_of, choice_of}
 use Rattle.options.specs.OptionLaws.{taken_apart}
 use Rattle.nodes.specs.Refusals.{refusal6, refusal7, refusal_of}
 use Rattle.links.specs.PreparedLayer.{WithNumerals}
 use Rattle.built.specs.declared.Built.{Built}
-use Rattle.built.specs.RefusedLayer.{refused_by}
+use Rattle.built.specs.Answered.{refused_by}
 use Rattle.built.specs.OutcomeLayer.{answer_when, index_when, totals_when}
 use Rattle.built.specs.OutcomeLaws.{attempt_refused, attempt_same}
 use Rattle.request.specs.Build.{build_refusal, built_of, index_after, totals_after}
 use Rattle.dated.specs.Dated.{refusal20, dated_refusal7, dated_refusal, dated_built, dated_index, dated_totals, dated_days}
 use Rattle.shortest.specs.Shortest.{shortest_refusal, shortest_built, shortest_index, shortest_totals}
 use Rattle.assemble.specs.declared.Placement.{Placement}
-use Rattle.assemble.specs.declared.Placement.TheVariants.{AllPaths, Dated}
+use Rattle.assemble.specs.declared.Placement.TheVariants.{AllPaths, Shortest, Dated}
 use Rattle.assemble.specs.AssembledLayer.{shortest_nine, dated_late, Placeable, RowsPlaced}
 use Rattle.build.specs.declared.Asked.{Asked}
 use Rattle.build.specs.declared.Asked.TheVariants.{ByCode, ByShortest, ByDays}
-use Rattle.build.specs.declared.Judged.{Judged}
-use Rattle.build.specs.AttemptedLayer.{CodeJudged, DaysJudged, AskedJudged, asked_outcome, days_written, asked_refusal, AskedAttempted}
+use Rattle.refusal.specs.declared.Refusal.{Refusal}
+use Rattle.refusal.specs.declared.Refusal.TheVariants.{UnknownCode, DepthWithOrphans, NoDays}
+use Rattle.refusal.specs.Numbers as numbers
+use Rattle.refusal.specs.Numbers.{number}
+use Rattle.refusal.specs.NumberLaws.{number_not_0}
+use Rattle.build.specs.AttemptedLayer.{judged, asked_outcome, days_written, asked_refusal, AskedAttempted}
 use Rattle.build.specs.Asked.{asked_built, asked_index, asked_totals, asked_days}
 
 -- ---- what is asked
 
-pub judged_six : (code : ℕ) (depth : Depth) (r : Judged) → refusal6 code ≡ true → r.refusal ≡ 6 → CodeJudged code depth r
-judged_six code depth r six e = record { refusal_is = e ∙ sym (ap (λ t. cond t 6 (cond (refusal7 (orphan_of code) depth) 7 0)) six); placement_is = λ z. absurd (omega arith) }
-
-pub judged_seven : (code : ℕ) (depth : Depth) (r : Judged) (choice : Choice) → choice ≡ choice_of code → refusal6 code ≡ false → refusal7 choice.orphan depth ≡ true → r.refusal ≡ 7 → CodeJudged code depth r
-judged_seven code depth r choice e six seven er =
-    record { refusal_is = er ∙ simp (six, ap (λ (c : Choice). refusal7 c.orphan depth) (sym e) ∙ seven); placement_is = λ z. absurd (omega arith) }
-
-pub judged_none : (code : ℕ) (depth : Depth) (r : Judged) (choice : Choice) → choice ≡ choice_of code → refusal6 code ≡ false → refusal7 choice.orphan depth ≡ false → r ≡ record { refusal = 0; placement = AllPaths choice depth }
-    → CodeJudged code depth r
-judged_none code depth r choice e six seven er =
-    record {
-      refusal_is = ap (λ (x : Judged). x.refusal) er ∙ simp (six, ap (λ (c : Choice). refusal7 c.orphan depth) (sym e) ∙ seven);
-      placement_is = λ z. ap (λ (x : Judged). x.placement) er ∙ ap (λ (c : Choice). AllPaths c depth) e;
-    }
-
-module _ (code : ℕ) (depth : Depth) (window : Days) (r : Judged) where
-  abbrev tests : Bool → Bool → Bool → ℕ
-  tests x y z = cond x 6 (cond y 20 (cond z 7 0))
-
-  pub days_six : refusal6 code ≡ true → r.refusal ≡ 6 → DaysJudged code depth window r
-  days_six six e = record { refusal_is = e ∙ sym (ap (λ t. tests t (refusal20 window) (dated_refusal7 (orphan_of code))) six); placement_is = λ z. absurd (omega arith) }
-
-  module _ (six : refusal6 code ≡ false) where
-    pub days_twenty : refusal20 window ≡ true → r.refusal ≡ 20 → DaysJudged code depth window r
-    days_twenty twenty e = record { refusal_is = e ∙ sym (ap₂ (λ t u. tests t u (dated_refusal7 (orphan_of code))) six twenty); placement_is = λ z. absurd (omega arith) }
-
-    module _ (twenty : refusal20 window ≡ false) (choice : Choice) (choice-is : choice ≡ choice_of code) where
-      orphans_are : eqb choice.orphan 0 ≡ eqb (orphan_of code) 0
-      orphans_are = ap (λ (c : Choice). eqb c.orphan 0) choice-is
-
-      pub days_seven : eqb choice.orphan 0 ≡ false → r.refusal ≡ 7 → DaysJudged code depth window r
-      days_seven some e =
-          record {
-            refusal_is = e ∙ sym (ap₂ (λ t u. tests t u (dated_refusal7 (orphan_of code))) six twenty ∙ ap (λ t. tests false false (not t)) (sym orphans_are ∙ some));
-            placement_is = λ z. absurd (omega arith);
-          }
-
-      pub days_none : eqb choice.orphan 0 ≡ true → r ≡ record { refusal = 0; placement = Dated choice depth window } → DaysJudged code depth window r
-      days_none none er =
-          record {
-            refusal_is = ap (λ (x : Judged). x.refusal) er ∙ sym (ap₂ (λ t u. tests t u (dated_refusal7 (orphan_of code))) six twenty ∙ ap (λ t. tests false false (not t)) (sym orphans_are ∙ none));
-            placement_is = λ z. ap (λ (x : Judged). x.placement) er ∙ ap (λ (c : Choice). Dated c depth window) choice-is;
-          }
-
-pub judged_as : (asked x : Asked) → asked ≡ x → (r : Judged) → AskedJudged x r → AskedJudged asked r
-judged_as asked x e r h = subst (λ a. AskedJudged a r) (sym e) h
-
 -- no sentence before the tests of the rows applies
-pub judged_placeable : (asked : Asked) (r : Judged) → AskedJudged asked r → r.refusal ≡ 0 → Placeable r.placement
-judged_placeable (ByCode code depth) r j z =
-    let six = cond_none (refusal6 code) 6 (cond (refusal7 (orphan_of code) depth) 7 0) (omega arith) (sym j.refusal_is ∙ z) in
-    let seven = cond_none (refusal7 (orphan_of code) depth) 7 0 (omega arith) six.1 in
-    subst Placeable (sym (j.placement_is z)) ((taken_apart code (ltb-false 23 code six.0)).0.orphan_named, seven.0)
-judged_placeable ByShortest r j z = subst Placeable (sym (ap (λ (x : Judged). x.placement) j)) tt
-judged_placeable (ByDays code depth window) r j z =
-    let six = cond_none (refusal6 code) 6 (cond (refusal20 window) 20 (cond (dated_refusal7 (orphan_of code)) 7 0)) (omega arith) (sym j.refusal_is ∙ z) in
-    let twenty = cond_none (refusal20 window) 20 (cond (dated_refusal7 (orphan_of code)) 7 0) (omega arith) six.1 in
-    let seven = cond_none (dated_refusal7 (orphan_of code)) 7 0 (omega arith) twenty.1 in
-    subst Placeable (sym (j.placement_is z)) (eqb-true (orphan_of code) 0 (not-false (eqb (orphan_of code) 0) seven.0))
+pub judged_placeable : (asked : Asked) (p : Placement) → judged asked ≡ Ok p → Placeable p
+judged_placeable (ByCode code depth) p j = go (refusal6 code) (refusal7 (orphan_of code) depth) refl refl j
+  where
+    go : (s t : Bool) → refusal6 code ≡ s → refusal7 (orphan_of code) depth ≡ t → cond s (Err UnknownCode) (cond t (Err DepthWithOrphans) (Ok (AllPaths (choice_of code) depth))) ≡ Ok p → Placeable p
+    go true t e f j = absurd cc
+    go false true e f j = absurd cc
+    go false false e f j = let same : AllPaths (choice_of code) depth ≡ p = cc in subst Placeable same ((taken_apart code (ltb-false 23 code e)).0.orphan_named, f)
+judged_placeable ByShortest p j = let same : Shortest ≡ p = cc in subst Placeable same tt
+judged_placeable (ByDays code depth window) p j = go (refusal6 code) (refusal20 window) (dated_refusal7 (orphan_of code)) refl j
+  where
+    go : (s t u : Bool) → dated_refusal7 (orphan_of code) ≡ u → cond s (Err UnknownCode) (cond t (Err NoDays) (cond u (Err DepthWithOrphans) (Ok (Dated (choice_of code) depth window)))) ≡ Ok p → Placeable p
+    go true t u f j = absurd cc
+    go false true u f j = absurd cc
+    go false false true f j = absurd cc
+    go false false false f j = let same : Dated (choice_of code) depth window ≡ p = cc in subst Placeable same (eqb-true (orphan_of code) 0 (not-false (eqb (orphan_of code) 0) f))
 
 -- ---- a board that is sound or not
 
@@ -121,28 +82,29 @@ module _ (b : Board) (start : Row → Bool) (words totals days : ℕ) where
   sound_dated code depth window e =
       ap (λ t. cond (not t) 1 (cond (refusal6 code) 6 (cond (refusal20 window) 20 (cond (dated_refusal7 (orphan_of code)) 7 (dated_late (rows_of b) code depth start window words totals days))))) e
 
-  -- refused by the code or the depth
-  by_code : (code : ℕ) (depth : Depth) (q : ℕ) → q ≡ cond (refusal6 code) 6 (cond (refusal7 (orphan_of code) depth) 7 0) → q ≢ 0 → refusal_of (rows_of b) code depth start words totals ≡ q
-  unfolding refusal_of
-  by_code code depth q e n = go (refusal6 code) (refusal7 (orphan_of code) depth) _ e
-    where
-      go : (s t : Bool) (rest : ℕ) → q ≡ cond s 6 (cond t 7 0) → cond s 6 (cond t 7 rest) ≡ q
-      go true t rest e = sym e
-      go false true rest e = sym e
-      go false false rest e = absurd (n e)
+-- refused by the code or the depth, or by neither
+by_code : (s t : Bool) (p : Placement) (e : Refusal) (rest : ℕ) → cond s (Err UnknownCode) (cond t (Err DepthWithOrphans) (Ok p)) ≡ Err e → cond s 6 (cond t 7 rest) ≡ number e
+by_code true t p e rest j = ap numbers.refusal_of j
+by_code false true p e rest j = ap numbers.refusal_of j
+by_code false false p e rest j = absurd cc
+
+by_rows : (s t : Bool) (p q : Placement) (rest : ℕ) → cond s (Err UnknownCode) (cond t (Err DepthWithOrphans) (Ok p)) ≡ Ok q → (s ≡ false) × (p ≡ q)
+by_rows true t p q rest j = absurd cc
+by_rows false true p q rest j = absurd cc
+by_rows false false p q rest j = (refl, cc)
 
 -- refused by the code or the window, or by none of them
-by_days : (x y z : Bool) (rest q : ℕ) → q ≡ cond x 6 (cond y 20 (cond z 7 0)) → q ≢ 0 → cond x 6 (cond y 20 (cond z 7 rest)) ≡ q
-by_days true y z rest q e n = sym e
-by_days false true z rest q e n = sym e
-by_days false false true rest q e n = sym e
-by_days false false false rest q e n = absurd (n e)
+by_days : (s t u : Bool) (p : Placement) (e : Refusal) (rest : ℕ) → cond s (Err UnknownCode) (cond t (Err NoDays) (cond u (Err DepthWithOrphans) (Ok p))) ≡ Err e → cond s 6 (cond t 20 (cond u 7 rest)) ≡ number e
+by_days true t u p e rest j = ap numbers.refusal_of j
+by_days false true u p e rest j = ap numbers.refusal_of j
+by_days false false true p e rest j = ap numbers.refusal_of j
+by_days false false false p e rest j = absurd cc
 
-by_late : (x y z : Bool) (rest : ℕ) → ◌≡◌ {A = ℕ} (cond x 6 (cond y 20 (cond z 7 0))) 0 → cond x 6 (cond y 20 (cond z 7 rest)) ≡ rest
-by_late true y z rest e = absurd (omega arith)
-by_late false true z rest e = absurd (omega arith)
-by_late false false true rest e = absurd (omega arith)
-by_late false false false rest e = refl
+by_late : (s t u : Bool) (p q : Placement) (rest : ℕ) → cond s (Err UnknownCode) (cond t (Err NoDays) (cond u (Err DepthWithOrphans) (Ok p))) ≡ Ok q → (cond s 6 (cond t 20 (cond u 7 rest)) ≡ rest) × (p ≡ q)
+by_late true t u p q rest j = absurd cc
+by_late false true u p q rest j = absurd cc
+by_late false false true p q rest j = absurd cc
+by_late false false false p q rest j = (refl, cc)
 
 module _ (b : Board) (start : Row → Bool) (index index' : List ℕ) (totals totals' : List ℤ) (days days' : List ℕ) (r : Built) where
   -- refused by a number
@@ -155,35 +117,41 @@ module _ (b : Board) (start : Row → Bool) (index index' : List ℕ) (totals to
   pub attempt_unsound : (asked : Asked) → sound_of b ≡ false → r ≡ refused_by 1 → AskedAttempted asked b start index index' totals totals' days days' r
   attempt_unsound asked s er = refused_by_lem asked 1 (unsound_refusal b start (length index) (length totals) (length days) asked s) (λ z. absurd (omega arith)) er
 
-  pub attempt_judged : (asked : Asked) (j : Judged) → AskedJudged asked j → sound_of b ≡ true → j.refusal ≢ 0 → r ≡ refused_by j.refusal → AskedAttempted asked b start index index' totals totals' days days' r
-  attempt_judged (ByCode code depth) j h s n er =
-      refused_by_lem (ByCode code depth) j.refusal
-      (sound_refusal b start (length index) (length totals) (length days) code depth s ∙ by_code b start (length index) (length totals) (length days) code depth j.refusal h.refusal_is n) n er
-  attempt_judged ByShortest j h s n er = absurd (n (ap (λ (x : Judged). x.refusal) h))
-  attempt_judged (ByDays code depth window) j h s n er =
-      refused_by_lem (ByDays code depth window) j.refusal
-      (sound_dated b start (length index) (length totals) (length days) code depth window s ∙ by_days (refusal6 code) (refusal20 window) (dated_refusal7 (orphan_of code)) _ j.refusal h.refusal_is n) n er
+  code_refused : (code : ℕ) (depth : Depth) (e : Refusal) → judged (ByCode code depth) ≡ Err e → refusal_of (rows_of b) code depth start (length index) (length totals) ≡ number e
+  unfolding refusal_of
+  code_refused code depth e j = by_code (refusal6 code) (refusal7 (orphan_of code) depth) _ e _ j
+
+  pub attempt_judged : (asked : Asked) (e : Refusal) → judged asked ≡ Err e → sound_of b ≡ true → r ≡ refused_by (number e) → AskedAttempted asked b start index index' totals totals' days days' r
+  attempt_judged (ByCode code depth) e j s er =
+      refused_by_lem (ByCode code depth) (number e)
+      (sound_refusal b start (length index) (length totals) (length days) code depth s ∙ code_refused code depth e j) (number_not_0 e) er
+  attempt_judged ByShortest e j s er = absurd cc
+  attempt_judged (ByDays code depth window) e j s er =
+      refused_by_lem (ByDays code depth window) (number e)
+      (sound_dated b start (length index) (length totals) (length days) code depth window s ∙ by_days (refusal6 code) (refusal20 window) (dated_refusal7 (orphan_of code)) _ e _ j) (number_not_0 e) er
 
   -- the rows of a sound board were built
-  pub attempt_built : (asked : Asked) (j : Judged) → AskedJudged asked j → sound_of b ≡ true → j.refusal ≡ 0 → RowsPlaced j.placement (rows_of b) start index index' totals totals' days days' r
+  pub attempt_built : (asked : Asked) (p : Placement) → judged asked ≡ Ok p → sound_of b ≡ true → RowsPlaced p (rows_of b) start index index' totals totals' days days' r
       → AskedAttempted asked b start index index' totals totals' days days' r
-  attempt_built (ByCode code depth) j h s z w =
-      let v = subst (λ (p : Placement). RowsPlaced p (rows_of b) start index index' totals totals' days days' r) (h.placement_is z) w in
+  attempt_built (ByCode code depth) p j s w =
+      let g = by_rows (refusal6 code) (refusal7 (orphan_of code) depth) _ p 0 j in
+      let v = subst (λ (p : Placement). RowsPlaced p (rows_of b) start index index' totals totals' days days' r) (sym g.1) w in
       record {
-        attempted = attempt_same (asked_outcome (ByCode code depth) b start) index index' totals totals' r (sym (sound_refusal b start (length index) (length totals) (length days) code depth s))
-            (v.0 code refl (cond_none (refusal6 code) 6 (cond (refusal7 (orphan_of code) depth) 7 0) (omega arith) (sym h.refusal_is ∙ z)).0);
+        attempted = attempt_same (asked_outcome (ByCode code depth) b start) index index' totals totals' r (sym (sound_refusal b start (length index) (length totals) (length days) code depth s)) (v.0 code refl g.0);
         days_are = λ _. v.1;
       }
-  attempt_built ByShortest j h s z w =
-      let v = subst (λ (p : Placement). RowsPlaced p (rows_of b) start index index' totals totals' days days' r) (ap (λ (x : Judged). x.placement) h) w in
+  attempt_built ByShortest p j s w =
+      let same : Shortest ≡ p = cc in
+      let v = subst (λ (p : Placement). RowsPlaced p (rows_of b) start index index' totals totals' days days' r) (sym same) w in
       record {
         attempted = attempt_same (asked_outcome ByShortest b start) index index' totals totals' r (sym (sound_nine b start (length index) (length totals) (length days) s)) v.0;
         days_are = λ _. v.1;
       }
-  attempt_built (ByDays code depth window) j h s z w =
-      let v = subst (λ (p : Placement). RowsPlaced p (rows_of b) start index index' totals totals' days days' r) (h.placement_is z) w code refl in
+  attempt_built (ByDays code depth window) p j s w =
+      let g = by_late (refusal6 code) (refusal20 window) (dated_refusal7 (orphan_of code)) _ p (dated_late (rows_of b) code depth start window (length index) (length totals) (length days)) j in
+      let v = subst (λ (p : Placement). RowsPlaced p (rows_of b) start index index' totals totals' days days' r) (sym g.1) w code refl in
       let e : dated_refusal b code depth start window (length index) (length totals) (length days) ≡ dated_late (rows_of b) code depth start window (length index) (length totals) (length days)
-      = sound_dated b start (length index) (length totals) (length days) code depth window s ∙ by_late (refusal6 code) (refusal20 window) (dated_refusal7 (orphan_of code)) _ (sym h.refusal_is ∙ z) in
+      = sound_dated b start (length index) (length totals) (length days) code depth window s ∙ g.0 in
       record {
         attempted = attempt_same (asked_outcome (ByDays code depth window) b start) index index' totals totals' r (sym e) v.attempted;
         days_are = λ d. v.days_are (sym e ∙ d);

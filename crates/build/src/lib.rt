@@ -3,92 +3,64 @@
 
 ghost use Rattle.std.specs.Prelude.{◌≡◌, length};
 ghost use Rattle.request.specs.Build.{start_rule, built_of, index_after, totals_after, by_default};
-ghost use Rattle.build.specs.AttemptedLayer.{CodeJudged, DaysJudged, AskedJudged, AskedAttempted};
+ghost use Rattle.built.specs.Answered.{built};
+ghost use Rattle.build.specs.declared.Asked.TheVariants.{ByCode, ByDays};
+ghost use Rattle.build.specs.AttemptedLayer.{judged, AskedAttempted};
 ghost use Rattle.build.specs.Asked.{asked_built, asked_index, asked_totals, asked_days};
 ghost use Rattle.dated.specs.Dated.{dated_built, dated_index, dated_totals, dated_days};
 ghost use Rattle.shortest.specs.Shortest.{shortest_built, shortest_index, shortest_totals};
 
 use assemble::Placement;
 use board::Board;
-use built::Built;
-use options::Depth;
+use built::Counts;
+use refusal::Refusal;
 use request::Start;
 use rows::Days;
 
 // What is asked of a build: all paths, by an option code and a depth, for each numeral the shortest, or by a code and a depth the paths with days left in a window.
 #[derive(Clone, Copy)]
 pub enum Asked {
-    ByCode(u32, Depth),
+    ByCode(u32, Option<i32>),
     ByShortest,
-    ByDays(u32, Depth, Days),
+    ByDays(u32, Option<i32>, Days),
 }
 
-// What comes of what is asked: refusal 6, 20 or 7, or 0, and where it is 0 the placement.
-#[derive(Clone, Copy)]
-pub struct Judged {
-    pub refusal: u32,
-    pub placement: Placement,
-}
-
-fn judge_code(code: u32, depth: Depth) -> Judged
-    ensures { CodeJudged code depth result }
+fn judge_code(code: u32, depth: Option<i32>) -> Result<Placement, Refusal>
+    ensures { result ≡ judged (ByCode code depth) }
 {
     if 23 < code {
-        return Judged {
-            refusal: 6,
-            placement: Placement::Shortest,
-        };
+        return Err(Refusal::UnknownCode);
     }
     let choice = options::choices(code);
     if refusals::is_depth_refused(choice.orphan, depth) {
-        return Judged {
-            refusal: 7,
-            placement: Placement::Shortest,
-        };
+        return Err(Refusal::DepthWithOrphans);
     }
-    Judged {
-        refusal: 0,
-        placement: Placement::AllPaths(choice, depth),
-    }
+    Ok(Placement::AllPaths(choice, depth))
 }
 
-fn judge_days(code: u32, depth: Depth, window: Days) -> Judged
-    ensures { DaysJudged code depth window result }
+fn judge_days(code: u32, depth: Option<i32>, window: Days) -> Result<Placement, Refusal>
+    ensures { result ≡ judged (ByDays code depth window) }
 {
     if code > 23 {
-        return Judged {
-            refusal: 6,
-            placement: Placement::Shortest,
-        };
+        return Err(Refusal::UnknownCode);
     }
     if window.last < window.first {
-        return Judged {
-            refusal: 20,
-            placement: Placement::Shortest,
-        };
+        return Err(Refusal::NoDays);
     }
     let choice = options::choices(code);
     if choice.orphan != 0 {
-        return Judged {
-            refusal: 7,
-            placement: Placement::Shortest,
-        };
+        return Err(Refusal::DepthWithOrphans);
     }
-    Judged {
-        refusal: 0,
-        placement: Placement::Dated(choice, depth, window),
-    }
+    Ok(Placement::Dated(choice, depth, window))
 }
 
-fn judge(asked: Asked) -> Judged
-    ensures { AskedJudged asked result }
+// What comes of what is asked: a refusal, or the placement.
+fn judge(asked: Asked) -> Result<Placement, Refusal>
+    ensures { result ≡ judged asked }
 {
     match asked {
         Asked::ByCode(code, depth) => judge_code(code, depth),
-        Asked::ByShortest => Judged {
-            refusal: 0,
-            placement: Placement::Shortest,
-        },
+        Asked::ByShortest => Ok(Placement::Shortest),
         Asked::ByDays(code, depth, window) => judge_days(code, depth, window),
     }
 }
@@ -102,19 +74,15 @@ fn attempt(
     index: &mut [u32],
     totals: &mut [i64],
     days: &mut [u32],
-) -> Built
-    ensures { AskedAttempted asked board (start_rule start list.now) index.old index.new totals.old totals.new days.old days.new result }
+) -> Result<Counts, Refusal>
+    ensures { AskedAttempted asked board (start_rule start list.now) index.old index.new totals.old totals.new days.old days.new (built result) }
 {
     if !board.sound() {
-        return built::refused(1);
+        return Err(Refusal::UnsoundBoard);
     }
-    let judged = judge(asked);
-    if judged.refusal != 0 {
-        return built::refused(judged.refusal);
-    }
+    let placement = judge(asked)?;
     let rows = board.rows;
     let n = board.count;
-    let placement = judged.placement;
     assemble::build_rows(rows, n, placement, start, list, index, totals, days)
 }
 
@@ -128,28 +96,28 @@ pub fn build_asked(
     index: &mut [u32],
     totals: &mut [i64],
     days: &mut [u32],
-) -> Built
-    ensures value { result ≡ asked_built asked board (start_rule start list.now) (length index.old) (length totals.old) (length days.old) }
+) -> Result<Counts, Refusal>
+    ensures value { built result ≡ asked_built asked board (start_rule start list.now) (length index.old) (length totals.old) (length days.old) }
     ensures index_after { index.new ≡ asked_index asked board (start_rule start list.now) index.old (length totals.old) (length days.old) }
     ensures totals_after { totals.new ≡ asked_totals asked board (start_rule start list.now) (length index.old) totals.old (length days.old) }
     ensures days_after { days.new ≡ asked_days asked board (start_rule start list.now) (length index.old) (length totals.old) days.old }
 {
-    let built = attempt(board, asked, start, list, index, totals, days);
-    built::settle_days(built, days);
-    built::settle(built, index, totals)
+    let answer = attempt(board, asked, start, list, index, totals, days);
+    built::settle_days(answer, days);
+    built::settle(answer, index, totals)
 }
 
 // Builds the index of a board and its running totals. A refused build leaves both slices all zero.
 pub fn build(
     board: Board,
     code: u32,
-    depth: Depth,
+    depth: Option<i32>,
     start: Start,
     list: &[u32],
     index: &mut [u32],
     totals: &mut [i64],
-) -> Built
-    ensures value { result ≡ built_of board code depth (start_rule start list.now) (length index.old) (length totals.old) }
+) -> Result<Counts, Refusal>
+    ensures value { built result ≡ built_of board code depth (start_rule start list.now) (length index.old) (length totals.old) }
     ensures index_after { index.new ≡ index_after board code depth (start_rule start list.now) index.old (length totals.old) }
     ensures totals_after { totals.new ≡ totals_after board code depth (start_rule start list.now) (length index.old) totals.old }
 {
@@ -169,8 +137,8 @@ pub fn build(
 const DEFAULT_CODE: u32 = 3;
 
 // The build by default: code 3, no depth, the rows with parent 0. Every row ends a node of an accepted one.
-pub fn build_default(board: Board, index: &mut [u32], totals: &mut [i64]) -> Built
-    ensures value { result ≡ by_default (built_of board) (length index.old) (length totals.old) }
+pub fn build_default(board: Board, index: &mut [u32], totals: &mut [i64]) -> Result<Counts, Refusal>
+    ensures value { built result ≡ by_default (built_of board) (length index.old) (length totals.old) }
     ensures index_after { index.new ≡ by_default (index_after board) index.old (length totals.old) }
     ensures totals_after { totals.new ≡ by_default (totals_after board) (length index.old) totals.old }
 {
@@ -178,7 +146,7 @@ pub fn build_default(board: Board, index: &mut [u32], totals: &mut [i64]) -> Bui
     build(
         board,
         DEFAULT_CODE,
-        Depth::None,
+        None,
         Start::ParentZero,
         &unread,
         index,
@@ -193,8 +161,8 @@ pub fn build_shortest(
     list: &[u32],
     index: &mut [u32],
     totals: &mut [i64],
-) -> Built
-    ensures value { result ≡ shortest_built board (start_rule start list.now) (length index.old) (length totals.old) }
+) -> Result<Counts, Refusal>
+    ensures value { built result ≡ shortest_built board (start_rule start list.now) (length index.old) (length totals.old) }
     ensures index_after { index.new ≡ shortest_index board (start_rule start list.now) index.old (length totals.old) }
     ensures totals_after { totals.new ≡ shortest_totals board (start_rule start list.now) (length index.old) totals.old }
 {
@@ -207,15 +175,15 @@ pub fn build_shortest(
 pub fn build_dated(
     board: Board,
     code: u32,
-    depth: Depth,
+    depth: Option<i32>,
     window: Days,
     start: Start,
     list: &[u32],
     index: &mut [u32],
     totals: &mut [i64],
     days: &mut [u32],
-) -> Built
-    ensures value { result ≡ dated_built board code depth (start_rule start list.now) window (length index.old) (length totals.old) (length days.old) }
+) -> Result<Counts, Refusal>
+    ensures value { built result ≡ dated_built board code depth (start_rule start list.now) window (length index.old) (length totals.old) (length days.old) }
     ensures index_after { index.new ≡ dated_index board code depth (start_rule start list.now) window index.old (length totals.old) (length days.old) }
     ensures totals_after { totals.new ≡ dated_totals board code depth (start_rule start list.now) window (length index.old) totals.old (length days.old) }
     ensures days_after { days.new ≡ dated_days board code depth (start_rule start list.now) window (length index.old) (length totals.old) days.old }

@@ -1,4 +1,4 @@
 pub mod Room
-pub mod RefusedLayer
+pub mod Answered
 pub mod OutcomeLayer
 pub mod OutcomeLaws

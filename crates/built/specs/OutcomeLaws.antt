@@ -5,7 +5,7 @@ use Rattle.std.proofs.Math.Decide.{ℕ_discrete}
 use Rattle.lists.specs.Lists.{front}
 use Rattle.image.specs.Layout.{image_words}
 use Rattle.built.specs.declared.Built.{Built}
-use Rattle.built.specs.RefusedLayer.{refused_by}
+use Rattle.built.specs.Answered.{refused_by}
 use Rattle.built.specs.OutcomeLayer.{Outcome, answer_when, index_when, totals_when, Attempted}
 
 -- one of two by a refusal

@@ -1,11 +1,8 @@
-// What the programs that run cases share: the paper's board with the index and the running totals that a build with code 3 makes of it, whether rows are the same, and how an answer is printed. Proved safe and ending; what they print is compared.
+// What the programs that run cases share: the paper's board with the index and the running totals that a build with code 3 makes of it, and how an answer is printed. Proved safe and ending; what they print is compared.
 #![tactic(auto)]
-
-ghost use Rattle.std.specs.Prelude.{◌≤◌};
 
 use board::Board;
 use rows::Row;
-use std::io;
 
 // A table of contents of 8 words, then numeral, row number, tree size, parent rank, root rank, and level with the bits of closing (2^30) and orphan (2^31), for each of 9 nodes.
 pub const INDEX: [u32; 62] = [
@@ -16,39 +13,17 @@ pub const INDEX: [u32; 62] = [
 
 pub const TOTALS: [i64; 10] = [0, 5, 9, 10, 9, 11, 14, 16, 15, 22];
 
-// The paper's index with one word changed.
-pub fn damaged(at: usize, word: u32) -> [u32; 62] {
-    let mut index = INDEX;
-    if at < 62 {
-        index[at] = word;
+// A list with one item changed, if it has that place.
+pub fn changed<T: Copy, const N: usize>(list: [T; N], at: usize, item: T) -> [T; N] {
+    let mut list = list;
+    if at < N {
+        list[at] = item;
     }
-    index
+    list
 }
 
-// Its totals with one changed.
-pub fn changed(at: usize, total: i64) -> [i64; 10] {
-    let mut totals = TOTALS;
-    if at < 10 {
-        totals[at] = total;
-    }
-    totals
-}
-
-pub fn say(rt: &impl Print, text: &[u8]) -> io::Result<()> {
-    rt.write_all(text)
-}
-
-// Prints a space and a number.
-pub fn number(rt: &impl Print, n: u32) -> io::Result<()> {
-    print!(rt; " {n}")
-}
-
-pub fn answer(rt: &impl Print, yes: bool) -> io::Result<()> {
-    if yes {
-        say(rt, b" yes")
-    } else {
-        say(rt, b" no")
-    }
+pub fn yes_or_no(yes: bool) -> &'static str {
+    if yes { "yes" } else { "no" }
 }
 
 pub fn row(parent: u32, numeral: u32, order: u32, minutes: i32) -> Row {
@@ -58,45 +33,16 @@ pub fn row(parent: u32, numeral: u32, order: u32, minutes: i32) -> Row {
 // The seven rows of the listing program's board.
 pub fn sample_board() -> Board {
     let mut board = Board::EMPTY;
-    board = board.add(row(0, 10, 1, 5)).board;
-    board = board.add(row(10, 20, 2, 3)).board;
-    board = board.add(row(10, 30, 1, 4)).board;
-    board = board.add(row(20, 40, 1, 2)).board;
-    board = board.add(row(30, 40, 1, 1)).board;
-    board = board.add(row(40, 20, 1, -1)).board;
-    board = board.add(row(90, 91, 1, 7)).board;
+    for added in [
+        row(0, 10, 1, 5),
+        row(10, 20, 2, 3),
+        row(10, 30, 1, 4),
+        row(20, 40, 1, 2),
+        row(30, 40, 1, 1),
+        row(40, 20, 1, -1),
+        row(90, 91, 1, 7),
+    ] {
+        board = board.add(added).board;
+    }
     board
-}
-
-pub fn same_row(a: Row, b: Row) -> bool {
-    if a.parent != b.parent {
-        return false;
-    }
-    if a.numeral != b.numeral {
-        return false;
-    }
-    if a.order != b.order {
-        return false;
-    }
-    if a.minutes != b.minutes {
-        return false;
-    }
-    let x = a.days;
-    let y = b.days;
-    if x.first != y.first {
-        return false;
-    }
-    x.last == y.last
-}
-
-// Whether the first n places hold the same rows.
-pub fn same_rows(a: Board, b: Board, n: usize) -> bool
-    requires { n ≤ 1024 }
-{
-    for i in 0..n {
-        if !same_row(a.rows[i], b.rows[i]) {
-            return false;
-        }
-    }
-    true
 }

@@ -1,12 +1,20 @@
 -- Paper 01, "Navigation": the climb from a rank to rank 0, and what ancestors answers. Assumes nothing: these are definitions.
-use Rattle.std.specs.Prelude.{ℕ, zero, suc, ◌-◌, List, [], ◌∷◌, Bool, true, false, cond, length, ltb, eqb, ℤ}
+use Rattle.std.specs.Prelude.{ℕ, zero, suc, ◌-◌, List, [], ◌∷◌, Result, Ok, Err, Bool, true, false, cond, length, ltb, eqb, ℤ}
 use Rattle.lists.specs.Lists.{filter}
 use Rattle.lists.specs.Choice.{first_of}
+use Rattle.refusal.specs.Numbers.{number}
+use Rattle.refusal.specs.declared.Refusal.{Refusal}
 use Rattle.image.specs.Layout.{parent_at}
 use Rattle.spans.specs.Spans.{rank_refusal}
 use Rattle.rank_filter.specs.Distances.{within, distance}
 use Rattle.navigate.specs.Navigate.{list_refusal, list_out}
+use Rattle.climb.specs.declared.Ascent.{Ascent}
 use Rattle.climb.specs.declared.Climbed.{Climbed}
+
+-- an answer as C has it: the number of the refusal or 0, the length of the list and the links
+abbrev pub ascended : Result Ascent Refusal → Climbed
+ascended (Ok ascent) = record { refusal = 0; len = ascent.len; links = ascent.links }
+ascended (Err refusal) = record { refusal = number refusal; len = 0; links = 0 }
 
 -- the ranks met, up to rank 0 or to one whose parent rank is not below it; `fuel` bounds their number, and the rank itself is enough
 unfoldable pub climb_from : List ℕ → ℕ → ℕ → List ℕ

@@ -1,12 +1,20 @@
 -- Paper 02, request 2.10, "Where two parts meet": what a climber answers to each call, over any slice, and where it has come to. Assumes nothing: these are definitions.
-use Rattle.std.specs.Prelude.{◌≡◌, ℕ, zero, suc, ◌<◌, List, Bool, true, false, cond, leb, eqb}
+use Rattle.std.specs.Prelude.{◌≡◌, ℕ, zero, suc, ◌<◌, List, Option, Some, None, Result, Ok, Err, Bool, true, false, cond, leb, eqb}
 use Rattle.lists.specs.Choice.{first_of}
+use Rattle.refusal.specs.Numbers.{number}
+use Rattle.refusal.specs.declared.Refusal.{Refusal}
 use Rattle.image.specs.Layout.{parent_at}
 use Rattle.spans.specs.Spans.{rank_refusal}
 use Rattle.climber.specs.declared.ClimbedOne.{ClimbedOne}
 
 abbrev pub answer : ℕ → Bool → ℕ → ClimbedOne
 answer refusal root rank = record { refusal = refusal; root = root; rank = rank }
+
+-- an answer to a call at a rank as C has it: a root, which has no parent, and a refused call stay at the rank
+abbrev pub risen : ℕ → Result (Option ℕ) Refusal → ClimbedOne
+risen rank (Ok (Some parent)) = answer 0 false parent
+risen rank (Ok None) = answer 0 true rank
+risen rank (Err refusal) = answer (number refusal) false rank
 
 -- "Sentences 13 to 15 hold for the climber's calls as well": 13 of the index, 14 of the rank it has come to, 15 of that rank's link
 abbrev pub climb_one_refusal : List ℕ → ℕ → ℕ

@@ -2,15 +2,52 @@
 #![tactic(auto)]
 
 ghost use Rattle.std.specs.Prelude.{◌≡◌};
-ghost use Rattle.climber.specs.Climber.{answer, climb_one_answer};
+ghost use Rattle.climber.specs.Climber.{climb_one_answer, risen};
 
-// The answer to a call that goes up one parent: whether the rank is a root, and the rank come to.
+use refusal::Refusal;
+
+// The answer to a call that goes up one parent, as C has it: whether the rank is a root, and the rank come to.
 #[repr(C)]
 #[derive(Clone, Copy)]
 pub struct ClimbedOne {
     pub refusal: u32,
     pub root: bool,
     pub rank: u32,
+}
+
+impl ClimbedOne {
+    // The answer to a call at a rank, where a climber stays at a root and where it is refused.
+    pub fn at(rank: u32, answer: Result<Option<u32>, Refusal>) -> ClimbedOne
+        ensures { result ≡ risen rank answer }
+    {
+        match answer {
+            Ok(parent) => ClimbedOne {
+                refusal: 0,
+                root: parent.is_none(),
+                rank: parent.unwrap_or(rank),
+            },
+            Err(refusal) => ClimbedOne {
+                refusal: refusal.number(),
+                root: false,
+                rank,
+            },
+        }
+    }
+}
+
+// The parent of a rank, none of a root.
+fn climb_one(index: &[u32], rank: u32) -> Result<Option<u32>, Refusal>
+    ensures { risen rank result ≡ climb_one_answer index.now rank }
+{
+    spans::check_rank(index, rank)?;
+    let parent = image::body_of(index, rank as usize).parent;
+    if rank <= parent {
+        return Err(Refusal::DamagedIndex);
+    }
+    if parent == 0 {
+        return Ok(None);
+    }
+    Ok(Some(parent))
 }
 
 // The lent index and the rank that the climber has come to.
@@ -24,35 +61,7 @@ pub struct Climber<'a> {
 #[derive(Clone, Copy)]
 pub struct Rise<'a> {
     pub climber: Climber<'a>,
-    pub answer: ClimbedOne,
-}
-
-fn answer(refusal: u32, root: bool, rank: u32) -> ClimbedOne
-    ensures { result ≡ answer refusal «root» rank }
-{
-    ClimbedOne {
-        refusal,
-        root,
-        rank,
-    }
-}
-
-// From a rank to its parent. At a root, and where it is refused, it stays.
-fn climb_one(index: &[u32], rank: u32) -> ClimbedOne
-    ensures { result ≡ climb_one_answer index.now rank }
-{
-    let refusal = spans::rank_refusal(index, rank);
-    if refusal != 0 {
-        return answer(refusal, false, rank);
-    }
-    let parent = image::body_of(index, rank as usize).parent;
-    if rank <= parent {
-        return answer(15, false, rank);
-    }
-    if parent == 0 {
-        return answer(0, true, rank);
-    }
-    answer(0, false, parent)
+    pub answer: Result<Option<u32>, Refusal>,
 }
 
 impl<'a> Climber<'a> {
@@ -63,14 +72,19 @@ impl<'a> Climber<'a> {
         Climber { index, rank }
     }
 
+    // Goes to the parent, which it answers; at a root, where there is none, and where it is refused, it stays.
     pub fn up(self) -> Rise<'a>
-        ensures { (result.climber.index ≡ self.entry.index) × (result.climber.rank ≡ result.answer.rank) × (result.answer ≡ climb_one_answer self.entry.index.now self.entry.rank) }
+        ensures { (result.climber.index ≡ self.entry.index) × (result.climber.rank ≡ (climb_one_answer self.entry.index.now self.entry.rank).rank) × (risen self.entry.rank result.answer ≡ climb_one_answer self.entry.index.now self.entry.rank) }
     {
         let answer = climb_one(self.index, self.rank);
+        let rank = match answer {
+            Ok(Some(parent)) => parent,
+            Ok(None) | Err(_) => self.rank,
+        };
         Rise {
             climber: Climber {
                 index: self.index,
-                rank: answer.rank,
+                rank,
             },
             answer,
         }
@@ -78,9 +92,8 @@ impl<'a> Climber<'a> {
 }
 
 // One call of a climber that is made for it: for callers that keep the index and the rank themselves, as those from C do.
-pub fn climb(index: &[u32], rank: u32) -> ClimbedOne
-    ensures { result ≡ climb_one_answer index.now rank }
+pub fn climb(index: &[u32], rank: u32) -> Result<Option<u32>, Refusal>
+    ensures { risen rank result ≡ climb_one_answer index.now rank }
 {
-    let risen = Climber::at(index, rank).up();
-    risen.answer
+    Climber::at(index, rank).up().answer
 }

@@ -19,20 +19,16 @@ pub fn cut_children(table: &mut [u32], reached: &[u32])
     ensures { Cut reached.now table.old table.new }
 {
     let n = table::rows(table) as u32;
-    let mut p = 0;
-    while p < n {
+    for p in 0..n {
         let q = table::word(table, p, table::CHILD);
         if n <= q {
-            p += 1;
             continue;
         }
         let x = table::word(table, q, table::ROW) as usize;
         if reached[x - 1] == 0 {
-            p += 1;
             continue;
         }
         table::set_child(table, p, n);
-        p += 1;
     }
 }
 
@@ -43,11 +39,9 @@ pub fn positions_by_row(table: &mut [u32])
 {
     let n = table::rows(table) as u32;
     let none = n * FIRST;
-    let mut p = 0;
-    while p < n {
+    for p in 0..n {
         let x = table::word(table, p, table::ROW);
         table::store(table, x - 1, table::PARENT_POSITION, none + p);
-        p += 1;
     }
 }
 
@@ -56,9 +50,7 @@ pub fn chain_classes(table: &mut [u32])
     requires { Unchained table.old }
     ensures { ChainsMade table.old table.new }
 {
-    let mut p = table::rows(table) as u32;
-    while 0 < p {
-        p -= 1;
+    for p in (0..table::rows(table) as u32).rev() {
         let c = table::word(table, p, table::CLASS);
         let first = table::word(table, c, table::PARENT_POSITION) / FIRST;
         let w = table::word(table, p, table::PARENT_POSITION);
@@ -95,11 +87,9 @@ pub fn cut_rows(from: u32, n: u32, table: &mut [u32], index: &[u32])
     requires { Cuttable table.old × Named index.now from n (length (child_column table.old)) × (from ≤ n) × (n ≤ 65535) × (8 + 6 * n ≤ length index.now) }
     ensures { LinksCut (RowMet table.old index.now from n) table.old table.new }
 {
-    let mut k = from;
-    while k < n {
+    for k in from..n {
         let x = index[image::bodies_end(k) + 1];
         let q = table::word(table, x - 1, table::PARENT_POSITION) % LATER;
         cut_class(q, table);
-        k += 1;
     }
 }

@@ -1,12 +1,11 @@
 -- Request 2.8 on the guide's table T_DEMO_TIME of HIERARCHY_TEMPORAL and on small boards: days at the edges, the order of the refusals, what a build leaves in the three slices. By computation of the
 -- definitions. Assumes nothing.
-use Rattle.std.specs.Prelude.{◌≡◌, refl, false, true, List, [], ◌∷◌, ℕ, pos, negsuc, length}
+use Rattle.std.specs.Prelude.{◌≡◌, refl, false, true, List, [], ◌∷◌, ℕ, pos, negsuc, length, None, Some}
 use Rattle.lists.specs.Lists.{sort, insert, front}
 use Rattle.rows.specs.declared.Row.{Row}
 use Rattle.rows.specs.declared.Days.{Days}
 use Rattle.board.specs.declared.Board.{Board}
 use Rattle.board.specs.Edits.{sound_of}
-use Rattle.options.specs.declared.Depth.TheVariants.{None, Limit}
 use Rattle.options.specs.Options.{level_limit}
 use Rattle.image.specs.declared.Body.{Body}
 use Rattle.image.specs.Layout.{body_words, flat, checked, contents_words, image_words}
@@ -52,8 +51,8 @@ pub record GuideCases : Type 0 where
   pub third_nodes : dated_bodies excluded (from 20150702 20150702) parent_zero None ≡ plain 3 0 1 1 1 ∷ plain 2 1 2 2 2 ∷ plain 1 2 3 4 4 ∷ []
   pub third_days : node_days excluded (from 20150702 20150702) parent_zero None ≡ 20150702 ∷ 20150702 ∷ 20150702 ∷ 20150702 ∷ 20150702 ∷ 20150702 ∷ []
   -- a depth together with a window
-  pub depth_too : dated closed (from 20150701 20191231) parent_zero (Limit (pos 1)) ≡ (1 ∷ []) ∷ (1 ∷ 2 ∷ []) ∷ []
-  pub no_depth : dated closed (from 20150701 20191231) parent_zero (Limit (negsuc 0)) ≡ []
+  pub depth_too : dated closed (from 20150701 20191231) parent_zero (Some (pos 1)) ≡ (1 ∷ []) ∷ (1 ∷ 2 ∷ []) ∷ []
+  pub no_depth : dated closed (from 20150701 20191231) parent_zero (Some (negsuc 0)) ≡ []
 
 pub guide_cases : GuideCases
 unfolding closed excluded sorted sort insert starts level_limit forest regular dated dated_bodies node_days dated_left_rows
@@ -143,7 +142,7 @@ pub record RefusalCases : Type 0 where
   -- each orphan choice but 0, with a depth and without
   pub error : dated_refusal ring 1 None parent_zero (from 5 9) 26 4 6 ≡ 7
   pub adopt : dated_refusal ring 2 None parent_zero (from 5 9) 26 4 6 ≡ 7
-  pub root : dated_refusal ring 3 (Limit (pos 1)) parent_zero (from 5 9) 26 4 6 ≡ 7
+  pub root : dated_refusal ring 3 (Some (pos 1)) parent_zero (from 5 9) 26 4 6 ≡ 7
   -- a window of one day isn't refused
   pub one_day : dated_refusal ring 0 None parent_zero (from 7 7) 26 4 6 ≡ 0
   -- before the days of the way back the ring doesn't close, and no numeral is shared
@@ -153,7 +152,7 @@ pub record RefusalCases : Type 0 where
   pub totals_short : dated_refusal ring 20 None parent_zero (from 3 4) 20 2 4 ≡ 9
   pub days_short : dated_refusal ring 20 None parent_zero (from 3 4) 20 3 3 ≡ 9
   -- no node needs no days
-  pub empty : dated_refusal ring 0 (Limit (negsuc 0)) parent_zero (from 3 4) 8 1 0 ≡ 0
+  pub empty : dated_refusal ring 0 (Some (negsuc 0)) parent_zero (from 3 4) 8 1 0 ≡ 0
 
 pub refusal_cases : RefusalCases
 unfolding ring unsound sorted sort insert starts level_limit forest regular dated dated_bodies sound_of dated_refusal

@@ -11,7 +11,7 @@ use Rattle.std.proofs.Math.ListN.{length-map}
 use Rattle.rows.specs.declared.Row.{Row}
 use Rattle.rows.specs.declared.Days.{Days}
 use Rattle.rows.specs.Days.{DayOf, first_after_last}
-use Rattle.options.specs.declared.Depth.{Depth}
+use Rattle.options.specs.Options.{Depth}
 use Rattle.options.specs.Options.{level_limit}
 use Rattle.image.specs.declared.Body.{Body}
 use Rattle.lists.specs.Lists.{◌∈◌, filter, numbers, Increasing, totals_from}

@@ -2,7 +2,7 @@
 use Rattle.std.specs.Prelude.{Bool, List, length}
 use Rattle.rows.specs.declared.Row.{Row}
 use Rattle.rows.specs.declared.Days.{Days}
-use Rattle.options.specs.declared.Depth.{Depth}
+use Rattle.options.specs.Options.{Depth}
 use Rattle.built.specs.OutcomeLayer.{Outcome}
 use Rattle.nodes.specs.Bodies.{running_totals}
 use Rattle.dated.specs.Dated.{dated, dated_bodies, dated_left_rows}

@@ -1,5 +1,5 @@
 -- The turns of the pass that writes the days of nodes, and what it leaves. Assumes nothing.
-use Rattle.std.specs.Prelude.{◌≡◌, refl, ◌⊎◌, cond, List, [], ◌∷◌, ℕ, suc, ◌+◌, ◌*◌, ◌-◌, ◌≤◌, ◌<◌, eqb, length, get_or, set}
+use Rattle.std.specs.Prelude.{◌≡◌, ◌⊎◌, cond, List, ℕ, suc, ◌+◌, ◌*◌, ◌-◌, ◌≤◌, ◌<◌, length, get_or, set}
 use Rattle.std.proofs.Common.{sym, ap, ap₂, subst, ◌∙◌, inl, inr, zero-add, arith, add-one, eq-eqb, ne_eqb}
 use Rattle.lists.specs.Lists.{front, numbers}
 use Rattle.lists.specs.MemberLaws.{numbers_length, get_or_numbers}

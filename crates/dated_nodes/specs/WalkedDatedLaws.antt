@@ -2,7 +2,7 @@
 use Rattle.std.specs.Prelude.{◌≡◌, refl, Bool, false, length, get_or}
 use Rattle.std.proofs.Math.Path.{sym, ap, subst, fun_ext}
 use Rattle.std.proofs.Common.{ap₂, ◌∙◌, inl, inr, ⊎_elim, zero-add, arith, ext_get_or}
-use mathlib.Core.List.{List, [], ◌∷◌, map}
+use mathlib.Core.List.{List, [], map}
 use Prim.Native.Nat.{ℕ, zero, suc, ◌+◌, ◌*◌, ◌-◌, ◌≤◌, ◌<◌}
 use Rattle.std.proofs.Math.Decide.{dec_lt}
 use Rattle.std.proofs.Math.ListN.{get_or-eq_default}
@@ -13,7 +13,7 @@ use Rattle.lists.specs.PairLaws.{pairs_length, pairs_at, pairs_by}
 use Rattle.rows.specs.declared.Row.{Row}
 use Rattle.rows.specs.declared.Days.{Days}
 use Rattle.rows.specs.Journal.{blank}
-use Rattle.options.specs.declared.Depth.{Depth}
+use Rattle.options.specs.Options.{Depth}
 use Rattle.options.specs.Options.{level_limit}
 use Rattle.image.specs.declared.Body.{Body}
 use Rattle.image.specs.ImageLayer.{HoldsImage}

@@ -13,14 +13,13 @@ ghost use Rattle.ordering.specs.OrderingLayer.{spans_of};
 ghost use Rattle.dated_walk.specs.DatedWalkLayer.{KeptFrom};
 ghost use Rattle.dated_nodes.specs.DatedNodesLayer.{days_above, DaysPass, day_pairs};
 
-use options::Depth;
 use rows::Days;
 use walk::{Bounds, Progress};
 
 // The nodes of a dated build: their bodies go to the index from word 8 on. A count above `cap` says that there are more. Words of `days` that belong to no node are as they were.
 pub fn walk_dated(
     window: Days,
-    depth: Depth,
+    depth: Option<i32>,
     cap: u32,
     spans: &[u32],
     table: &[u32],
@@ -37,7 +36,7 @@ pub fn walk_dated(
     let n = table::rows(table) as u32;
     let bounds = Bounds {
         limit: options::level_limit(depth, n),
-        cap: cap,
+        cap,
     };
     dated_walk::roots(window, bounds, spans, table, marks, index, days)
 }
@@ -57,8 +56,7 @@ pub fn fill_days(window: Days, n: usize, spans: &[u32], index: &[u32], days: &mu
     requires { (n ≤ 65535) × (2 * n ≤ length days.old) }
     ensures { (D : ℕ → Days) → DaysPass window spans.now index.now n D → days.new ≡ front (day_pairs D n) days.old }
 {
-    let mut k = 0;
-    while k < n {
+    for k in 0..n {
         let rank = k + 1;
         let above = days_above(image::parent_at(index, rank), window, days);
         let row = dated_walk::days_at(image::row_at(index, rank), spans);
@@ -66,6 +64,5 @@ pub fn fill_days(window: Days, n: usize, spans: &[u32], index: &[u32], days: &mu
         let at = 2 * k;
         days[at] = own.first;
         days[at + 1] = own.last;
-        k = rank;
     }
 }

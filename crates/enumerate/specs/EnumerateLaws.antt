@@ -1,5 +1,5 @@
 -- The enumeration leaves the bodies of the paper's nodes, under each orphan choice. Assumes nothing.
-use Rattle.std.specs.Prelude.{◌≡◌, ℕ, zero, suc, ◌+◌, ◌-◌, ◌*◌, ◌%◌, ◌^◌, ◌<◌, ◌≤◌, Bool, true, false, cond, T, ◌≢◌, ◌⊎◌, List, [], ◌∷◌, ◌++◌, map, length, ◌==◌, nat_eq, slice_index, slice_index_or, slice_set, refl}
+use Rattle.std.specs.Prelude.{◌≡◌, ℕ, zero, suc, ◌+◌, ◌-◌, ◌*◌, ◌%◌, ◌^◌, ◌<◌, ◌≤◌, Bool, true, false, cond, T, ◌≢◌, ◌⊎◌, List, [], ◌∷◌, ◌++◌, map, length, ◌==◌, nat_eq, slice_index, slice_index_or, slice_set, refl, None}
 use Rattle.std.proofs.Math.Path.{sym, ap, subst}
 use Rattle.std.proofs.Common.{ap₂, ◌∙◌, inl, inr, ⊎_elim, append_assoc, append-nil, zero-add, eq-eqb, eqb→eq}
 use Rattle.std.proofs.Math.Numerals.{add-one}
@@ -14,8 +14,7 @@ use Rattle.lists.specs.MemberLaws.{filter_none, map_append, numbers_out}
 use Rattle.rows.specs.declared.Row.{Row}
 use Rattle.image.specs.declared.Body.{Body}
 use Rattle.image.specs.Layout.{flat}
-use Rattle.options.specs.declared.Depth.{Depth}
-use Rattle.options.specs.declared.Depth.TheVariants.{None}
+use Rattle.options.specs.Options.{Depth}
 use Rattle.options.specs.Options.{level_limit}
 use Rattle.paths.specs.Forest.{next}
 use Rattle.paths.specs.Rows.{row as boardRow, num, par}
@@ -261,68 +260,65 @@ module _ (R : List Row) (start : Row → Bool) (depth : Depth) (t : List ℕ) (r
 
   module _ (cap : ℕ) (on on₁ ix ix₁ : List ℕ) (b : StartProgress) (fits : 8 + 6 * cap ≤ length ix) (clear : Clear on) (lim : ℕ) (limit_is : lim ≡ level_limit depth (length R))
       (last_is : ℕ) (walks : StartsWalked (rows_of t) (flag_column t) last_is lim cap on on₁ ix ix₁ b) where
-    abbrev regular_progress : Progress
-    regular_progress = record { count = b.count; check = b.check }
-
     starting : Starting (num R) (par R) (sorted R) (map (row_of W) (flagged flags 0 (length child))) (map (row_of W) (flagged flags 0 last_is)) lim cap on on₁ ix ix₁ b
     unfolding StartsWalked
     starting = walks (num R) (par R) (sorted R) (prepared_listed R t ready) (clear_marked W (num R) on clear)
 
     -- the regular paths' bodies are written
-    pub begun_walked : Walked regular_bodies 0 cap 0 on on₁ ix ix₁ (record { count = b.count; check = b.check })
+    pub begun_walked : Walked regular_bodies 0 cap 0 on on₁ ix ix₁ b.all
     begun_walked =
-        subst (λ (L : List Body). Walked L 0 cap 0 on on₁ ix ix₁ regular_progress)
+        subst (λ (L : List Body). Walked L 0 cap 0 on on₁ ix ix₁ b.all)
         (ap₂ (λ (g : ℕ) (xs : List ℕ). emit (mk_body R false) (num R) (par R) (sorted R) g [] xs 0 0 1 1) limit_is all_starts) starting.walked
 
-    pub begun_marks : b.count ≤ cap → on₁ ≡ on
+    pub begun_marks : b.all.count ≤ cap → on₁ ≡ on
     begun_marks = begun_walked.marks
 
     -- ignore and error
-    pub plain_walked : (orphan : ℕ) → orphan < 2 → Walked (bodies R start depth (orphan_choice orphan)) 0 cap 0 on on₁ ix ix₁ (record { count = b.count; check = b.check })
-    plain_walked zero h = subst (λ (L : List Body). Walked L 0 cap 0 on on₁ ix ix₁ (record { count = b.count; check = b.check })) (sym (bodies_ignore R start depth)) begun_walked
-    plain_walked (suc zero) h = subst (λ (L : List Body). Walked L 0 cap 0 on on₁ ix ix₁ (record { count = b.count; check = b.check })) (sym (bodies_error R start depth)) begun_walked
+    pub plain_walked : (orphan : ℕ) → orphan < 2 → Walked (bodies R start depth (orphan_choice orphan)) 0 cap 0 on on₁ ix ix₁ b.all
+    plain_walked zero h = subst (λ (L : List Body). Walked L 0 cap 0 on on₁ ix ix₁ b.all) (sym (bodies_ignore R start depth)) begun_walked
+    plain_walked (suc zero) h = subst (λ (L : List Body). Walked L 0 cap 0 on on₁ ix ix₁ b.all) (sym (bodies_error R start depth)) begun_walked
     plain_walked (suc (suc k)) h = absurd (omega arith)
 
     -- more nodes than the capacity
-    pub over_walked : (orphan : ℕ) → orphan ≤ 3 → (1 < orphan → depth ≡ None) → cap < b.count → Walked (bodies R start depth (orphan_choice orphan)) 0 cap 0 on on₁ ix ix₁ (record { count = b.count; check = b.check })
-    over_walked orphan low none over = walked_longer regular_bodies (bodies R start depth (orphan_choice orphan)) 0 cap 0 on on₁ ix ix₁ ix₁ regular_progress begun_walked over (regular_shorter R start depth orphan low none)
+    pub over_walked : (orphan : ℕ) → orphan ≤ 3 → (1 < orphan → depth ≡ None) → cap < b.all.count → Walked (bodies R start depth (orphan_choice orphan)) 0 cap 0 on on₁ ix ix₁ b.all
+    over_walked orphan low none over = walked_longer regular_bodies (bodies R start depth (orphan_choice orphan)) 0 cap 0 on on₁ ix ix₁ ix₁ b.all begun_walked over (regular_shorter R start depth orphan low none)
 
     -- adopt without a start row
-    pub no_start_walked : depth ≡ None → starts R start ≡ [] → Walked (bodies R start depth adopt) 0 cap 0 on on₁ ix ix₁ (record { count = b.count; check = b.check })
+    pub no_start_walked : depth ≡ None → starts R start ≡ [] → Walked (bodies R start depth adopt) 0 cap 0 on on₁ ix ix₁ b.all
     no_start_walked none e =
         let r : regular_bodies ≡ [] = ap (λ (xs : List ℕ). E xs 1) e ∙ emit_nil (mk_body R false) (num R) (par R) (sorted R) (level_limit depth (length R)) [] 0 0 1 1 in
         let w : bodies R start depth adopt ≡ [] = ap (λ (d : Depth). bodies R start d adopt) none ∙ bodies_adopt_none R start e in
-        subst (λ (L : List Body). Walked L 0 cap 0 on on₁ ix ix₁ regular_progress) (r ∙ sym w) begun_walked
+        subst (λ (L : List Body). Walked L 0 cap 0 on on₁ ix ix₁ b.all) (r ∙ sym w) begun_walked
 
-    module _ (fit : b.count ≤ cap) where
-      pub count_is : b.count ≡ length regular_bodies
+    module _ (fit : b.all.count ≤ cap) where
+      pub count_is : b.all.count ≡ length regular_bodies
       count_is = omega (arith, begun_walked.count)
 
       room : 8 + 6 * length regular_bodies ≤ length ix
       room = omega (arith, count_is)
 
-      pub ends_are : rows_to ix₁ b.count ≡ map last (regular R start depth)
+      pub ends_are : rows_to ix₁ b.all.count ≡ map last (regular R start depth)
       ends_are =
           ap₂ rows_to (begun_walked.written fit) count_is
           ∙ sym (rows_from_first (sets ix 8 (flat regular_bodies)) (length regular_bodies))
           ∙ rows_written ix 0 (length regular_bodies) regular_bodies (sym (zero-add (length regular_bodies))) room
           ∙ regular_rows R start depth false 0 0 1 1
 
-      pub begun_written : depth ≡ None → WithNumerals R → RegularWritten R start t ix₁ b.count
+      pub begun_written : depth ≡ None → WithNumerals R → RegularWritten R start t ix₁ b.all.count
       begun_written none numbered = record { prepared = ready; numbered = numbered; ends_are = ends_are ∙ ap (λ (d : Depth). map last (regular R start d)) none }
 
       -- root: the orphan paths and the entries as roots
-      pub root_walked : depth ≡ None → (on₂ ix₂ : List ℕ) (r : Progress) → Walked (outside_from R start 0 b.count) b.count cap b.check on₁ on₂ ix₁ ix₂ r
+      pub root_walked : depth ≡ None → (on₂ ix₂ : List ℕ) (r : Progress) → Walked (outside_from R start 0 b.all.count) b.all.count cap b.all.check on₁ on₂ ix₁ ix₂ r
           → Walked (bodies R start depth root) 0 cap 0 on on₂ ix ix₂ r
       root_walked none on₂ ix₂ r w =
           subst (λ (L : List Body). Walked L 0 cap 0 on on₂ ix ix₂ r) (sym (whole_is none))
-          (walked_join regular_bodies (outside_from R start 0 b.count) 0 cap 0 on on₁ on₂ ix ix₁ ix₂ regular_progress r begun_walked fit w)
+          (walked_join regular_bodies (outside_from R start 0 b.all.count) 0 cap 0 on on₁ on₂ ix ix₁ ix₂ b.all r begun_walked fit w)
         where
-          whole_is : depth ≡ None → bodies R start depth root ≡ regular_bodies ++ outside_from R start 0 b.count
+          whole_is : depth ≡ None → bodies R start depth root ≡ regular_bodies ++ outside_from R start 0 b.all.count
           whole_is e =
               ap (λ (d : Depth). bodies R start d root) e
-              ∙ root_bodies R start b.count (count_is ∙ ap (λ (d : Depth). length (regular_for R start d)) e)
-              ∙ ap (λ (d : Depth). regular_for R start d ++ outside_from R start 0 b.count) (sym e)
+              ∙ root_bodies R start b.all.count (count_is ∙ ap (λ (d : Depth). length (regular_for R start d)) e)
+              ∙ ap (λ (d : Depth). regular_for R start d ++ outside_from R start 0 b.all.count) (sym e)
 
       -- adopt, with a start row at the position last_is
       module _ (none : depth ≡ None) (last-flag : last_is ≡ last_flag flags) (some : last_is < length row) where
@@ -364,13 +360,13 @@ module _ (R : List Row) (start : Row → Bool) (depth : Depth) (t : List ℕ) (r
         unfolding own mine
         regular_is = ap (λ (d : Depth). regular_for R start d) none ∙ adopt_regular R start s a starts_split rank rank_is
 
-        counted : b.count ≡ length (first_for R s) + suc (length own)
+        counted : b.all.count ≡ length (first_for R s) + suc (length own)
         counted = count_is ∙ ap length regular_is ∙ length-append (first_for R s) (mine (suc (length own)) ∷ own)
 
-        pub adopt_before : b.before < b.count
+        pub adopt_before : b.before < b.all.count
         adopt_before = omega (arith, counted, before_first)
 
-        pub adopt_size : slice_index_or ix₁ (8 + 6 * b.before + 2) 0 ≤ b.count
+        pub adopt_size : slice_index_or ix₁ (8 + 6 * b.before + 2) 0 ≤ b.all.count
         unfolding mine
         adopt_size =
             let L : List Body = first_for R s ++ (mine (suc (length own)) ∷ own) in
@@ -381,15 +377,15 @@ module _ (R : List Row) (start : Row → Bool) (depth : Depth) (t : List ℕ) (r
             omega (arith, e, counted)
 
         taken : List Body
-        taken = outside_from R start (b.before + 1) b.count
+        taken = outside_from R start (b.before + 1) b.all.count
 
         whole_is : bodies R start depth adopt ≡ first_for R s ++ (mine (suc (length own) + length taken) ∷ (own ++ taken))
         unfolding taken own mine rank
         whole_is =
-            let n : b.count ≡ rank + length own = omega (arith, counted, before_first) in
+            let n : b.all.count ≡ rank + length own = omega (arith, counted, before_first) in
             let size : suc (length own + length taken) ≡ suc (length own) + length taken = omega arith in
             ap (λ (d : Depth). bodies R start d adopt) none
-            ∙ adopt_bodies R start s a starts_split rank b.count rank_is n
+            ∙ adopt_bodies R start s a starts_split rank b.all.count rank_is n
             ∙ ap (λ (z : ℕ). first_for R s ++ (mine z ∷ (own ++ taken))) size
 
         joined : regular_bodies ++ taken ≡ first_for R s ++ (mine (suc (length own)) ∷ (own ++ taken))
@@ -403,7 +399,7 @@ module _ (R : List Row) (start : Row → Bool) (depth : Depth) (t : List ℕ) (r
             both : Walked (first_for R s ++ (mine (suc (length own)) ∷ (own ++ taken))) 0 cap 0 on on₂ ix q.middle q.progress
             both =
                 subst (λ (L : List Body). Walked L 0 cap 0 on on₂ ix q.middle q.progress) joined
-                (walked_join regular_bodies taken 0 cap 0 on on₁ on₂ ix ix₁ q.middle regular_progress q.progress begun_walked fit q.walked)
+                (walked_join regular_bodies taken 0 cap 0 on on₁ on₂ ix ix₁ q.middle b.all q.progress begun_walked fit q.walked)
 
             A : List Body
             A = first_for R s
@@ -414,7 +410,7 @@ module _ (R : List Row) (start : Row → Bool) (depth : Depth) (t : List ℕ) (r
             lengths : length (A ++ (mine (suc (length own) + length taken) ∷ T)) ≡ length (A ++ (mine (suc (length own)) ∷ T))
             lengths = length-append A (mine (suc (length own) + length taken) ∷ T) ∙ sym (length-append A (mine (suc (length own)) ∷ T))
 
-            more : q.progress.count ≤ cap → q.progress.count - b.count ≡ length taken
+            more : q.progress.count ≤ cap → q.progress.count - b.all.count ≡ length taken
             more h = omega (arith, q.walked.count)
 
             go : Dec (cap < q.progress.count) → Walked (A ++ (mine (suc (length own) + length taken) ∷ T)) 0 cap 0 on on₂ ix ix₂ r

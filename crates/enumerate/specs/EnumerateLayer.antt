@@ -1,5 +1,5 @@
 -- What the enumeration of a board's nodes is given and what it leaves. Assumes nothing: these are definitions.
-use Rattle.std.specs.Prelude.{◌≡◌, ℕ, suc, ◌+◌, ◌-◌, ◌*◌, ◌%◌, ◌^◌, ◌≤◌, Bool, true, false, cond, not, List, [], ◌++◌, map, length, replicate, ◌==◌, slice_index, slice_set}
+use Rattle.std.specs.Prelude.{◌≡◌, ℕ, suc, ◌+◌, ◌-◌, ◌*◌, ◌%◌, ◌^◌, ◌≤◌, Bool, true, false, cond, not, List, [], ◌++◌, map, length, replicate, ◌==◌, slice_index, slice_set, None}
 use Rattle.lists.specs.Lists.{filter}
 use Rattle.rows.specs.declared.Row.{Row}
 use Rattle.image.specs.declared.Body.{Body}
@@ -10,7 +10,6 @@ use Rattle.paths.specs.Paths.{last}
 use Rattle.paths.specs.Nodes.{sorted, no_parent, regular}
 use Rattle.islands.specs.Entries.{islands, entries}
 use Rattle.islands.specs.EntryLayer.{entry_walks}
-use Rattle.options.specs.declared.Depth.TheVariants.{None}
 use Rattle.links.specs.PreparedLayer.{Prepared, WithNumerals}
 use Rattle.table.specs.TableLayer.{row_column, flag_column}
 use Rattle.passes.specs.PassesLayer.{rows_to}
@@ -26,9 +25,9 @@ pub record ClearWorkspace (n : ℕ) (reached marks : List ℕ) : Type 0 where
 
 -- the walk of the start rows, where `last` is any position: all nodes, and those of the start rows before that position
 pub record Starting (num par : ℕ → ℕ) (pool all some : List ℕ) (limit cap : ℕ) (on on' index index' : List ℕ) (r : StartProgress) : Type 0 where
-  pub walked : Walked (emit (node_body num false) num par pool limit [] all 0 0 1 1) 0 cap 0 on on' index index' (record { count = r.count; check = r.check })
-  pub before_is : r.count ≤ cap → r.before ≡ length (emit (node_body num false) num par pool limit [] some 0 0 1 1)
-  pub before_le : r.before ≤ r.count
+  pub walked : Walked (emit (node_body num false) num par pool limit [] all 0 0 1 1) 0 cap 0 on on' index index' r.all
+  pub before_is : r.all.count ≤ cap → r.before ≡ length (emit (node_body num false) num par pool limit [] some 0 0 1 1)
+  pub before_le : r.before ≤ r.all.count
 
 unfoldable pub StartsWalked : (W : Rows) (flags : List ℕ) (last limit cap : ℕ) (on on' index index' : List ℕ) (r : StartProgress) → Type 0
 StartsWalked W flags last limit cap on on' index index' r =
@@ -82,6 +81,6 @@ pub record Raised (before more : ℕ) (m : Progress) (index index' : List ℕ) (
 pub record Adopted (R : List Row) (start : Row → Bool) (cap : ℕ) (b : StartProgress) (on on' index index' : List ℕ) (r : Progress) : Type 0 where
   pub progress : Progress
   pub middle : List ℕ
-  pub walked : Walked (outside_from R start (b.before + 1) b.count) b.count cap b.check on on' index middle progress
+  pub walked : Walked (outside_from R start (b.before + 1) b.all.count) b.all.count cap b.all.check on on' index middle progress
   pub count_is : r.count ≡ progress.count
-  pub raised : progress.count ≤ cap → Raised b.before (progress.count - b.count) progress middle index' r
+  pub raised : progress.count ≤ cap → Raised b.before (progress.count - b.all.count) progress middle index' r

@@ -1,5 +1,5 @@
 -- After the orphan paths: the rows that are not flagged are those of the islands, and what is walked of them follows the orphan paths. Assumes nothing.
-use Rattle.std.specs.Prelude.{◌≡◌, ℕ, suc, ◌+◌, ◌-◌, ◌*◌, ◌<◌, ◌≤◌, Bool, true, false, cond, not, ◌&&◌, List, [], ◌++◌, map, length, nat_eq, nat_le, slice_index, slice_index_or}
+use Rattle.std.specs.Prelude.{◌≡◌, ℕ, suc, ◌+◌, ◌-◌, ◌*◌, ◌<◌, ◌≤◌, Bool, true, false, cond, not, ◌&&◌, List, [], ◌++◌, map, length, nat_eq, nat_le, slice_index, slice_index_or, None}
 use Rattle.std.proofs.Math.Path.{refl, sym, ap, subst}
 use Rattle.std.proofs.Common.{ap₂, ◌∙◌, append-nil, arith, length-append}
 use Rattle.std.proofs.Math.Decide.{dec_lt}
@@ -10,7 +10,6 @@ use Rattle.lists.specs.MemberLaws.{and_in, and_out, same_test, filter_in, filter
 use Rattle.lists.specs.CountingLaws.{by_place, by_place_length}
 use Rattle.rows.specs.declared.Row.{Row}
 use Rattle.image.specs.declared.Body.{Body}
-use Rattle.options.specs.declared.Depth.TheVariants.{None}
 use Rattle.paths.specs.Forest.{memb}
 use Rattle.paths.proofs.ForestLaws.{memb_in, memb_out}
 use Rattle.paths.specs.Rows.{num, par, RowOf}

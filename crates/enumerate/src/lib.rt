@@ -1,9 +1,8 @@
 // The enumeration of a board's nodes: the regular paths, then under adopt and root the orphan paths and the entries of islands.
 #![tactic(auto)]
 
-ghost use Rattle.std.specs.Prelude.{◌≡◌, ◌+◌, ◌*◌, ◌<◌, ◌≤◌, Bool, List, length, slice_index};
+ghost use Rattle.std.specs.Prelude.{◌≡◌, ◌+◌, ◌*◌, ◌<◌, ◌≤◌, Bool, List, length, slice_index, None};
 ghost use Rattle.rows.specs.declared.Row.{Row};
-ghost use Rattle.options.specs.declared.Depth.TheVariants.{None};
 ghost use Rattle.table.specs.TableLayer.{row_column, child_column, flag_column};
 ghost use Rattle.links.specs.PreparedLayer.{Prepared, StartFlags, WithNumerals, AnyPrepared};
 ghost use Rattle.nodes.specs.Bodies.{bodies};
@@ -12,15 +11,13 @@ ghost use Rattle.walk.specs.WalkLayer.{Walkable, Walked, rows_of};
 ghost use Rattle.rings.specs.RingsLayer.{RowsKept};
 ghost use Rattle.enumerate.specs.EnumerateLayer.{ClearWorkspace, StartsWalked, orphan_level, TopsWalked, outside_from, RegularWritten, AnyRegularWritten, Raised, Adopted};
 
-use options::Depth;
 use walk::{Bounds, Place, Progress};
 
-// The walk of the start rows: how many nodes those before a position have, how many all have, and their check word.
+// The walk of the start rows: how many nodes those before a position have, and what was met of all.
 #[derive(Clone, Copy)]
 pub struct StartProgress {
     pub before: u32,
-    pub count: u32,
-    pub check: u32,
+    pub all: Progress,
 }
 
 // Walks the start rows before the position `last`, then those from it on.
@@ -46,16 +43,14 @@ fn walk_starts(
     if bounds.cap < first.count {
         return StartProgress {
             before: first.count,
-            count: first.count,
-            check: first.check,
+            all: first,
         };
     }
     let n = table::rows(table) as u32;
-    let progress = walk::roots(last, n, top, bounds, first, table, marks, index);
+    let all = walk::roots(last, n, top, bounds, first, table, marks, index);
     StartProgress {
         before: first.count,
-        count: progress.count,
-        check: progress.check,
+        all,
     }
 }
 
@@ -81,14 +76,14 @@ fn walk_tops(
     let level = level_under(rank);
     let n = table::rows(table) as u32;
     let place = Place {
-        level: level,
+        level,
         parent: rank,
         root: rank,
         orphan: true,
     };
     let bounds = Bounds {
         limit: n + level,
-        cap: cap,
+        cap,
     };
     walk::roots(0, n, place, bounds, progress, table, marks, index)
 }
@@ -148,8 +143,8 @@ fn raise(before: u32, more: u32, progress: Progress, index: &mut [u32]) -> Progr
     let size = image::size_at(index, rank) + more;
     image::set_size(index, rank, size);
     Progress {
-        count: progress.count,
-        check: std::num::wrapping_add_u32(progress.check, more),
+        check: progress.check.wrapping_add(more),
+        ..progress
     }
 }
 
@@ -162,29 +157,24 @@ fn adopt(
     marks: &mut [u32],
     index: &mut [u32],
 ) -> Progress
-    requires any_regular_written { AnyRegularWritten table.old index.old starts.count }
-    requires before_lt_count { (starts.before < starts.count) × (starts.count ≤ cap) × (cap ≤ 65535) × (8 + 6 * cap ≤ length index.old) × (slice_index index.old (8 + 6 * starts.before + 2) ≤ starts.count) }
+    requires any_regular_written { AnyRegularWritten table.old index.old starts.all.count }
+    requires before_lt_count { (starts.before < starts.all.count) × (starts.all.count ≤ cap) × (cap ≤ 65535) × (8 + 6 * cap ≤ length index.old) × (slice_index index.old (8 + 6 * starts.before + 2) ≤ starts.all.count) }
     requires clear_workspace { ClearWorkspace (length (row_column table.old)) reached.old marks.old }
-    ensures adopted { (R : List Row) (start : Row → Bool) → RegularWritten R start table.old index.old starts.count → Adopted R start cap starts marks.old marks.new index.old index.new result }
+    ensures adopted { (R : List Row) (start : Row → Bool) → RegularWritten R start table.old index.old starts.all.count → Adopted R start cap starts marks.old marks.new index.old index.new result }
     ensures rows_kept { RowsKept table.old table.new }
 {
     let before = starts.before;
-    let count = starts.count;
-    let regular = Progress {
-        count: count,
-        check: starts.check,
-    };
-    let progress = walk_outside(before + 1, regular, cap, table, reached, marks, index);
+    let progress = walk_outside(before + 1, starts.all, cap, table, reached, marks, index);
     if cap < progress.count {
         return progress;
     }
-    raise(before, progress.count - count, progress, index)
+    raise(before, progress.count - starts.all.count, progress, index)
 }
 
 // The nodes of a board: their bodies go to the index from word 8 on. A count above `cap` says that there are more.
 pub fn enumerate(
     orphan: u32,
-    depth: Depth,
+    depth: Option<i32>,
     cap: u32,
     table: &mut [u32],
     reached: &mut [u32],
@@ -201,24 +191,20 @@ pub fn enumerate(
     let last = orphans::last_flag(table);
     let bounds = Bounds {
         limit: options::level_limit(depth, n),
-        cap: cap,
+        cap,
     };
     let starts = walk_starts(last, bounds, table, marks, index);
-    let regular = Progress {
-        count: starts.count,
-        check: starts.check,
-    };
-    if cap < starts.count {
-        return regular;
+    if cap < starts.all.count {
+        return starts.all;
     }
     if orphan < 2 {
-        return regular;
+        return starts.all;
     }
     if orphan == 3 {
-        return walk_outside(0, regular, cap, table, reached, marks, index);
+        return walk_outside(0, starts.all, cap, table, reached, marks, index);
     }
     if n <= last {
-        return regular;
+        return starts.all;
     }
     adopt(starts, cap, table, reached, marks, index)
 }

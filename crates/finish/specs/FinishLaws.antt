@@ -33,7 +33,7 @@ use Rattle.passes.specs.PassesLayer.{Named, NamedOrEntry, RowsOnce, ByRow, Class
 use Rattle.table.specs.TableLayer.{row_column, class_column, child_column, next_column}
 use Rattle.table.specs.TableLaws.{column_length}
 use Rattle.built.specs.declared.Built.{Built}
-use Rattle.built.specs.RefusedLayer.{refused_by}
+use Rattle.built.specs.Answered.{refused_by}
 use Rattle.walk.specs.declared.Progress.{Progress}
 use Rattle.finish.specs.FinishLayer.{NodesWritten, Classes, NodesHeld, left_over, left_count, late_refusal, late_answer, body_minutes, Finished}
 

@@ -27,12 +27,11 @@ use history::Replayed;
 use hops::Hopped;
 use meet::Meeting;
 use navigate::Listed;
-use options::Depth;
 use request::Start;
 use rows::{Days, Row};
 use sums::Summed;
 
-// Where a node's span stands in the index slice: its first word, counted from 0, and its number of words.
+// Where a node's span stands in the index slice: its first word, counted from 0, and its number of words. A number and two words, 0 where it is refused, since C has no Result.
 #[repr(C)]
 #[derive(Clone, Copy)]
 pub struct Span {
@@ -41,22 +40,22 @@ pub struct Span {
     pub words: usize,
 }
 
-fn depth_of(has_depth: bool, depth: i32) -> Depth
+// C has no Option: it gives a flag and a depth.
+fn depth_of(has_depth: bool, depth: i32) -> Option<i32>
     ensures { result ≡ depth_of has_depth depth }
 {
-    if has_depth {
-        return Depth::Limit(depth);
-    }
-    Depth::None
+    if has_depth { Some(depth) } else { None }
 }
 
+// C gives a flag for the start rule.
 fn start_of(by_list: bool) -> Start
     ensures { result ≡ start_of by_list }
 {
     if by_list {
-        return Start::Listed;
+        Start::Listed
+    } else {
+        Start::ParentZero
     }
-    Start::ParentZero
 }
 
 #[unsafe(no_mangle)]
@@ -134,7 +133,7 @@ pub extern "C" fn flowpewter_build(
 {
     let limit = depth_of(has_depth, depth);
     let start = start_of(by_list);
-    build::build(board, code, limit, start, list, index, totals)
+    Built::from(build::build(board, code, limit, start, list, index, totals))
 }
 
 #[unsafe(no_mangle)]
@@ -147,7 +146,7 @@ pub extern "C" fn flowpewter_build_default(
     ensures index_after { index.new ≡ by_default (index_after board) index.old (length totals.old) }
     ensures totals_after { totals.new ≡ by_default (totals_after board) (length index.old) totals.old }
 {
-    build::build_default(board, index, totals)
+    Built::from(build::build_default(board, index, totals))
 }
 
 // Without `by_list` the list is ignored.
@@ -164,7 +163,7 @@ pub extern "C" fn flowpewter_build_shortest(
     ensures totals_after { totals.new ≡ shortest_totals board (start_rule (start_of by_list) list.now) (length index.old) totals.old }
 {
     let rule = start_of(by_list);
-    build::build_shortest(board, rule, list, index, totals)
+    Built::from(build::build_shortest(board, rule, list, index, totals))
 }
 
 // The window is the days from `first_day` to `last_day`, both included. Without `has_depth` the depth is ignored, and without `by_list` the list is.
@@ -193,7 +192,7 @@ pub extern "C" fn flowpewter_build_dated(
         first: first_day,
         last: last_day,
     };
-    build::build_dated(board, code, limit, window, start, list, index, totals, days)
+    Built::from(build::build_dated(board, code, limit, window, start, list, index, totals, days))
 }
 
 #[unsafe(no_mangle)]
@@ -207,18 +206,18 @@ pub extern "C" fn flowpewter_build_levelled(
     ensures index_after { index.new ≡ levelled_index cells.now width index.old (length totals.old) }
     ensures totals_after { totals.new ≡ levelled_totals cells.now width (length index.old) totals.old }
 {
-    levelled::build_levelled(cells, width, index, totals)
+    Built::from(levelled::build_levelled(cells, width, index, totals))
 }
 
 // A returned part of a slice can't be exported: the caller cuts it out by start and length.
 #[unsafe(no_mangle)]
+#[tactic(auto, unfolding(crate::specs::Spans::span_of))]
 pub extern "C" fn flowpewter_span(index: &[u32], rank: u32) -> Span
     ensures { result ≡ span_of index.now rank }
 {
-    let refusal = spans::span_refusal(index, rank);
-    if refusal != 0 {
+    if let Err(refusal) = spans::check_span(index, rank) {
         return Span {
-            refusal,
+            refusal: refusal.number(),
             start: 0,
             words: 0,
         };
@@ -242,7 +241,7 @@ pub extern "C" fn flowpewter_descendants(
     ensures value { result ≡ descendants_answer index.now rank lo hi out.old }
     ensures out_after { out.new ≡ descendants_out index.now rank lo hi out.old }
 {
-    navigate::descendants(index, rank, lo, hi, out)
+    Listed::from(navigate::descendants(index, rank, lo, hi, out))
 }
 
 #[unsafe(no_mangle)]
@@ -256,7 +255,7 @@ pub extern "C" fn flowpewter_ancestors(
     ensures value { result ≡ ancestors_answer index.now rank lo hi out.old }
     ensures out_after { out.new ≡ ancestors_out index.now rank lo hi out.old }
 {
-    climb::ancestors(index, rank, lo, hi, out)
+    Climbed::from(climb::ancestors(index, rank, lo, hi, out))
 }
 
 #[unsafe(no_mangle)]
@@ -264,7 +263,7 @@ pub extern "C" fn flowpewter_siblings(index: &[u32], rank: u32, out: &mut [u32])
     ensures value { result ≡ siblings_answer index.now rank out.old }
     ensures out_after { out.new ≡ siblings_out index.now rank out.old }
 {
-    navigate::siblings(index, rank, out)
+    Listed::from(navigate::siblings(index, rank, out))
 }
 
 #[unsafe(no_mangle)]
@@ -272,35 +271,35 @@ pub extern "C" fn flowpewter_siblings_by_hops(index: &[u32], rank: u32, out: &mu
     ensures value { result ≡ siblings_by_hops_answer index.now rank out.old }
     ensures out_after { out.new ≡ siblings_by_hops_out index.now rank out.old }
 {
-    hops::siblings_by_hops(index, rank, out)
+    Hopped::from(hops::siblings_by_hops(index, rank, out))
 }
 
 #[unsafe(no_mangle)]
 pub extern "C" fn flowpewter_meet(index: &[u32], a: u32, b: u32) -> Meeting
     ensures { result ≡ meet_answer index.now a b }
 {
-    meet::meet(index, a, b)
+    Meeting::from(meet::meet(index, a, b))
 }
 
 #[unsafe(no_mangle)]
 pub extern "C" fn flowpewter_climb(index: &[u32], rank: u32) -> ClimbedOne
     ensures { result ≡ climb_one_answer index.now rank }
 {
-    climber::climb(index, rank)
+    ClimbedOne::at(rank, climber::climb(index, rank))
 }
 
 #[unsafe(no_mangle)]
 pub extern "C" fn flowpewter_subtree_sum(index: &[u32], totals: &[i64], rank: u32) -> Summed
     ensures { result ≡ subtree_answer index.now totals.now rank }
 {
-    sums::subtree_sum(index, totals, rank)
+    Summed::from(sums::subtree_sum(index, totals, rank))
 }
 
 #[unsafe(no_mangle)]
 pub extern "C" fn flowpewter_path_sum(index: &[u32], totals: &[i64], rank: u32) -> Summed
     ensures { result ≡ path_answer index.now totals.now rank }
 {
-    sums::path_sum(index, totals, rank)
+    Summed::from(sums::path_sum(index, totals, rank))
 }
 
 #[unsafe(no_mangle)]
@@ -313,7 +312,10 @@ pub extern "C" fn flowpewter_pull(
     ensures value { result ≡ pull_refusal index.now totals.old row difference }
     ensures totals_after { totals.new ≡ pull_out index.now totals.old row difference }
 {
-    pull::pull(index, totals, row, difference)
+    match pull::pull(index, totals, row, difference) {
+        Ok(()) => 0,
+        Err(refusal) => refusal.number(),
+    }
 }
 
 #[unsafe(no_mangle)]

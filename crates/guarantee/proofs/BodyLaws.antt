@@ -9,7 +9,7 @@ use Rattle.std.proofs.Math.ListN.{length, get_or, get_or-append}
 use Rattle.lists.specs.Lists.{◌∈◌}
 use Rattle.lists.specs.MemberLaws.{get_or_in, get_d_append_right}
 use Rattle.rows.specs.declared.Row.{Row}
-use Rattle.options.specs.declared.Depth.{Depth}
+use Rattle.options.specs.Options.{Depth}
 use Rattle.image.specs.declared.Body.{Body}
 use Rattle.paths.specs.Rows.{num}
 use Rattle.paths.specs.Paths.{last, closes, Orphan, Regular}

@@ -3,7 +3,7 @@
 use Rattle.std.specs.Prelude.{◌≡◌, Bool, true, List, ℕ, ℤ, length}
 use Rattle.rows.specs.declared.Row.{Row}
 use Rattle.board.specs.declared.Board.{Board}
-use Rattle.options.specs.declared.Depth.{Depth}
+use Rattle.options.specs.Options.{Depth}
 use Rattle.index_check.specs.IndexCheck.{accepts}
 use Rattle.answers.specs.Answers.{DistancesAtMostZero, LinksByLevel}
 use Rattle.request.specs.Build.{built_of, index_after}

@@ -16,7 +16,7 @@ use Rattle.rows.specs.declared.Row.{Row}
 use Rattle.rows.specs.declared.Days.{Days}
 use Rattle.board.specs.declared.Board.{Board}
 use Rattle.board.specs.Edits.{rows_of, sound_of}
-use Rattle.options.specs.declared.Depth.{Depth}
+use Rattle.options.specs.Options.{Depth}
 use Rattle.options.specs.Options.{orphan_of, multi_of, cycle_of}
 use Rattle.image.specs.declared.Body.{Body}
 use Rattle.built.specs.Room.{refusal9}

@@ -5,7 +5,7 @@ use Rattle.lists.specs.Lists.{front, totals_from}
 use Rattle.rows.specs.declared.Row.{Row}
 use Rattle.board.specs.declared.Board.{Board}
 use Rattle.board.specs.Edits.{rows_of}
-use Rattle.options.specs.declared.Depth.{Depth}
+use Rattle.options.specs.Options.{Depth}
 use Rattle.options.specs.Options.{orphan_of}
 use Rattle.forest.specs.Nodes.{last}
 use Rattle.paths.specs.Paths.{Orphan}

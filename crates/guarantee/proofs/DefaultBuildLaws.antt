@@ -5,7 +5,7 @@ use Rattle.lists.specs.Lists.{◌∈◌, any}
 use Rattle.lists.specs.MemberLaws.{eq→eqb, any_out, any_in, none_in, place_of}
 use Rattle.rows.specs.declared.Row.{Row}
 use Rattle.board.specs.declared.Board.{Board}
-use Rattle.options.specs.declared.Depth.{Depth}
+use Rattle.options.specs.Options.{Depth}
 use Rattle.forest.specs.Nodes.{node_at}
 use Rattle.paths.specs.Rows.{RowOf}
 use Rattle.paths.specs.Paths.{last}

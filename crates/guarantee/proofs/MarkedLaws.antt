@@ -1,5 +1,5 @@
 -- The marked cases hold: a build on the board after a list of calls is a build over the plain machine's rows, and over those the definitions compute. Assumes nothing.
-use Rattle.std.specs.Prelude.{◌≡◌, refl, Bool, List, [], ◌∷◌, ◌++◌, map, eqb, ℤ, pos, negsuc, length, replicate}
+use Rattle.std.specs.Prelude.{◌≡◌, refl, Bool, List, [], ◌∷◌, ◌++◌, map, eqb, ℤ, pos, negsuc, length, replicate, None, Some}
 use Rattle.std.proofs.Common.{sym, ap₂, ◌∙◌}
 use Rattle.std.proofs.Math.Path.{ap}
 use Rattle.std.proofs.Math.Bool.{cond}
@@ -12,8 +12,7 @@ use Rattle.board.specs.Edits.{empty_of, rows_of}
 use Rattle.machine.specs.Machine.{after, start}
 use Rattle.machine.specs.Calls.{final}
 use Rattle.machine.proofs.SimulationLaws.{final_rows, final_sound, final_refusals}
-use Rattle.options.specs.declared.Depth.{Depth}
-use Rattle.options.specs.declared.Depth.TheVariants.{None, Limit}
+use Rattle.options.specs.Options.{Depth}
 use Rattle.options.specs.Options.{level_limit}
 use Rattle.image.specs.Layout.{bad_contents, body_words, flat, checked, contents_words, image_words, body_of, bodies_of}
 use Rattle.image.specs.Sample.{listing}
@@ -102,8 +101,8 @@ marked_cases = record {
   m3 = built_is lines 2 None parent_zero 62 10;
   m3_rank9 = index_2 9;
   m3_rank1 = index_2 1;
-  m4 = built_is lines 0 (Limit (pos 0)) parent_zero 62 10;
-  m4_none = built_is lines 0 (Limit (negsuc 0)) parent_zero 62 10;
+  m4 = built_is lines 0 (Some (pos 0)) parent_zero 62 10;
+  m4_none = built_is lines 0 (Some (negsuc 0)) parent_zero 62 10;
   m5_cycle = built_is lines 12 None parent_zero 62 10;
   m5_multi = built_is lines 4 None parent_zero 62 10;
   m5_orphan = built_is lines 1 None parent_zero 62 10;

@@ -1,7 +1,7 @@
 -- A build over all paths is as PathBuilds says: on every sound board, for every code, depth, start rule and slices; on any other it is refused. Assumes nothing.
 use Rattle.std.proofs.Math.Path.{◌≡◌, refl, ap}
 use Rattle.std.proofs.Common.{sym, subst, ◌∙◌, true≢false, arith, length-take, ne_eqb, ltb-false}
-use Rattle.std.specs.Prelude.{Bool, List, map, eqb, ltb, ℤ, length}
+use Rattle.std.specs.Prelude.{Bool, List, map, eqb, ltb, ℤ, length, None, Some}
 use Rattle.std.proofs.Math.Bool.{true, false, cond, not}
 use Prim.Native.Nat.{ℕ, zero, suc, ◌≤◌, ◌<◌}
 use Rattle.lists.specs.ChoiceLaws.{or_no}
@@ -11,8 +11,7 @@ use Rattle.rows.specs.declared.Row.{Row}
 use Rattle.board.specs.declared.Board.{Board}
 use Rattle.board.specs.Edits.{rows_of, sound_of}
 use Rattle.board.specs.Laws.{sound_count}
-use Rattle.options.specs.declared.Depth.{Depth}
-use Rattle.options.specs.declared.Depth.TheVariants.{None, Limit}
+use Rattle.options.specs.Options.{Depth}
 use Rattle.options.specs.Options.{orphan_of}
 use Rattle.paths.specs.Forest.{memb}
 use Rattle.paths.specs.Paths.{last, Orphan}
@@ -39,16 +38,16 @@ use Rattle.guarantee.proofs.SentenceLaws.{first_sentence}
 -- sentence 7 doesn't apply, so a depth is given only where there are no orphan nodes
 allowed_here : (depth : Depth) (orphan : ℕ) → refusal7 orphan depth ≡ false → Allowed depth (orphan_choice orphan)
 allowed_here None orphan e = tt
-allowed_here (Limit d) zero e = tt
-allowed_here (Limit d) (suc zero) e = tt
-allowed_here (Limit d) (suc (suc zero)) e = absurd (true≢false e)
-allowed_here (Limit d) (suc (suc (suc orphan))) e = absurd (true≢false (sym (ap not (ne_eqb (suc (suc (suc orphan))) 0 (λ z. omega arith))) ∙ e))
+allowed_here (Some d) zero e = tt
+allowed_here (Some d) (suc zero) e = tt
+allowed_here (Some d) (suc (suc zero)) e = absurd (true≢false e)
+allowed_here (Some d) (suc (suc (suc orphan))) e = absurd (true≢false (sym (ap not (ne_eqb (suc (suc (suc orphan))) 0 (λ z. omega arith))) ∙ e))
 
 -- sentences 7 and 8 don't apply, so under adopt and root no row is left over
 none_left_at : (R : List Row) (starts : Row → Bool) (depth : Depth) (orphan : ℕ) → 1 < orphan → refusal7 orphan depth ≡ false
     → refusal8 orphan (tops R starts depth) (islands R starts) (startRows R starts) ≡ false → left_of R starts depth (orphan_choice orphan) ≡ 0
 none_left_at R starts None orphan h seven eight = accepted_leaves_none R starts orphan h eight
-none_left_at R starts (Limit d) orphan h seven eight = absurd (true≢false (sym (ap not (ne_eqb orphan 0 (λ z. omega arith))) ∙ seven))
+none_left_at R starts (Some d) orphan h seven eight = absurd (true≢false (sym (ap not (ne_eqb orphan 0 (λ z. omega arith))) ∙ seven))
 
 -- ---- a build over rows
 

@@ -18,7 +18,7 @@ use Rattle.rows.specs.Journal.{blank, remarked}
 use Rattle.board.specs.declared.Board.{Board}
 use Rattle.board.specs.Edits.{rows_of, sound_of, edit}
 use Rattle.machine.proofs.RemarkLaws.{remark_taken, remark_rows, remark_sound}
-use Rattle.options.specs.declared.Depth.{Depth}
+use Rattle.options.specs.Options.{Depth}
 use Rattle.options.specs.Options.{orphan_of}
 use Rattle.image.specs.declared.Body.{Body}
 use Rattle.forest.specs.Nodes.{last, node_at}

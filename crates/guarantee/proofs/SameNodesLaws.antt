@@ -1,6 +1,6 @@
 -- What a build's nodes, bodies, rows left over and refusals are made from: the parents, numerals and orders of its rows, and of a dated build their days. Rows that agree in these give the same. Assumes
 -- nothing.
-use Rattle.std.specs.Prelude.{◌≡◌, Bool, true, false, ◌&&◌, ◌||◌, leb, ltb, get_or, drop, replicate}
+use Rattle.std.specs.Prelude.{◌≡◌, Bool, true, false, ◌&&◌, ◌||◌, leb, ltb, get_or, drop, replicate, None}
 use Rattle.std.proofs.Math.Path.{refl, sym, ap}
 use Rattle.std.proofs.Common.{◌∙◌}
 use Rattle.std.proofs.Math.Bool.{cond, not}
@@ -17,8 +17,7 @@ use Rattle.rows.specs.declared.Days.{Days}
 use Rattle.rows.specs.Journal.{blank}
 use Rattle.board.specs.declared.Board.{Board}
 use Rattle.board.specs.Edits.{rows_of, sound_of}
-use Rattle.options.specs.declared.Depth.{Depth}
-use Rattle.options.specs.declared.Depth.TheVariants.{None}
+use Rattle.options.specs.Options.{Depth}
 use Rattle.options.specs.Options.{orphan_of, multi_of, cycle_of, level_limit}
 use Rattle.image.specs.Layout.{image_words}
 use Rattle.built.specs.Room.{refusal9}

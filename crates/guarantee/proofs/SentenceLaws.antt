@@ -7,7 +7,7 @@ use Rattle.std.proofs.Math.Dec.{T}
 use Rattle.lists.specs.Lists.{◌∈◌, any, Increasing}
 use Rattle.lists.specs.MemberLaws.{any_out, any_in, get_or_in, place_of, increasing_at}
 use Rattle.rows.specs.declared.Row.{Row}
-use Rattle.options.specs.declared.Depth.{Depth}
+use Rattle.options.specs.Options.{Depth}
 use Rattle.options.specs.Options.{orphan_of, multi_of, cycle_of}
 use Rattle.image.specs.declared.Body.{Body}
 use Rattle.paths.specs.Rows.{RowOf}

@@ -6,7 +6,7 @@ use Rattle.rows.specs.declared.Row.{Row}
 use Rattle.rows.specs.declared.Days.{Days}
 use Rattle.board.specs.declared.Board.{Board}
 use Rattle.board.specs.Edits.{sound_of}
-use Rattle.options.specs.declared.Depth.{Depth}
+use Rattle.options.specs.Options.{Depth}
 use Rattle.options.specs.Options.{orphan_of, multi_of, cycle_of}
 use Rattle.index_check.specs.IndexCheck.{accepts}
 use Rattle.forest.specs.Nodes.{init, last, head, Before, rank_of, node_at}

@@ -4,7 +4,7 @@ use Rattle.rows.specs.declared.Row.{Row}
 use Rattle.rows.specs.Journal.{undated}
 use Rattle.board.specs.declared.Board.{Board}
 use Rattle.board.specs.Edits.{rows_of, sound_of}
-use Rattle.options.specs.declared.Depth.{Depth}
+use Rattle.options.specs.Options.{Depth}
 use Rattle.shortest.specs.Shortest.{shortest_built, shortest_index, shortest_totals}
 use Rattle.request.specs.declared.Start.{Start}
 use Rattle.request.specs.Build.{start_rule, built_of, index_after, totals_after}

@@ -1,6 +1,6 @@
 -- The marked cases M1 to M10 of paper 01 as one table, of calls on the empty board, builds on the board they left and navigation on the index; that they hold is `marked_cases` in MarkedLaws.
 -- Assumes nothing: these are definitions.
-use Rattle.std.specs.Prelude.{◌≡◌, false, true, List, [], ◌∷◌, ◌++◌, map, ℕ, ℤ, pos, negsuc, replicate}
+use Rattle.std.specs.Prelude.{◌≡◌, false, true, List, [], ◌∷◌, ◌++◌, map, ℕ, ℤ, pos, negsuc, replicate, None, Some}
 use Rattle.lists.specs.Lists.{numbers}
 use Rattle.rows.specs.declared.Row.{Row}
 use Rattle.board.specs.declared.Board.{Board}
@@ -8,8 +8,7 @@ use Rattle.rows.specs.declared.Call.{Call}
 use Rattle.rows.specs.declared.Call.TheVariants.{Add, Withdraw, Undo}
 use Rattle.board.specs.Edits.{empty_of, rows_of}
 use Rattle.machine.specs.Calls.{edits, final}
-use Rattle.options.specs.declared.Depth.{Depth}
-use Rattle.options.specs.declared.Depth.TheVariants.{None, Limit}
+use Rattle.options.specs.Options.{Depth}
 use Rattle.image.specs.Layout.{body_of, bodies_of}
 use Rattle.image.specs.Sample.{printed, listing, listing_words}
 use Rattle.paths.specs.Rows.{parent_zero}
@@ -56,8 +55,8 @@ pub record MarkedCases : Type 0 where
   pub m3_rank9 : body_of (built_index 2) 9 ≡ printed 1 1 2 1 false true 91 7
   pub m3_rank1 : body_of (built_index 2) 1 ≡ printed 9 0 1 1 false false 10 1
   -- M4: depth 0, code 0: one node; depth -1: none
-  pub m4 : built listed 0 (Limit (pos 0)) ≡ counts 0 1 6
-  pub m4_none : built listed 0 (Limit (negsuc 0)) ≡ counts 0 0 7
+  pub m4 : built listed 0 (Some (pos 0)) ≡ counts 0 1 6
+  pub m4_none : built listed 0 (Some (negsuc 0)) ≡ counts 0 0 7
   -- M5: code 12 is refused 10, code 4 refused 11, code 1 refused 12
   pub m5_cycle : built listed 12 None ≡ counts 10 0 0
   pub m5_multi : built listed 4 None ≡ counts 11 0 0

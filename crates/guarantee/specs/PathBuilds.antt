@@ -7,7 +7,7 @@ use Rattle.lists.specs.Lists.{◌∈◌}
 use Rattle.rows.specs.declared.Row.{Row}
 use Rattle.board.specs.declared.Board.{Board}
 use Rattle.board.specs.Edits.{sound_of}
-use Rattle.options.specs.declared.Depth.{Depth}
+use Rattle.options.specs.Options.{Depth}
 use Rattle.options.specs.Options.{orphan_of, multi_of, cycle_of}
 use Rattle.forest.specs.Nodes.{init, last, head}
 use Rattle.paths.specs.Rows.{num, RowOf}

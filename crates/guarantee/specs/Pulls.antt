@@ -9,7 +9,7 @@ use Rattle.rows.specs.declared.Call.TheVariants.{Remark}
 use Rattle.board.specs.declared.Board.{Board}
 use Rattle.board.specs.declared.Edited.{Edited}
 use Rattle.board.specs.Edits.{edit}
-use Rattle.options.specs.declared.Depth.{Depth}
+use Rattle.options.specs.Options.{Depth}
 use Rattle.built.specs.declared.Built.{Built}
 use Rattle.paths.specs.Rows.{row, RowOf}
 use Rattle.shortest.specs.Shortest.{shortest_built, shortest_index, shortest_totals}

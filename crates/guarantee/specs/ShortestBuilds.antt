@@ -1,11 +1,10 @@
 -- Builds of shortest placement, in the words of change request 2.6 of paper 02: the kept paths as a kind of nodes, so that such a build is said by the same statement as every build. Assumes nothing:
 -- these are definitions.
-use Rattle.std.specs.Prelude.{◌≡◌, ◌≢◌, Bool, true, false, List, [], ◌∷◌, ℕ, ◌≤◌, ◌<◌, T, ℤ, length}
+use Rattle.std.specs.Prelude.{◌≡◌, ◌≢◌, Bool, true, false, List, [], ◌∷◌, ℕ, ◌≤◌, ◌<◌, T, ℤ, length, None}
 use Rattle.lists.specs.Lists.{◌∈◌}
 use Rattle.rows.specs.declared.Row.{Row}
 use Rattle.board.specs.declared.Board.{Board}
 use Rattle.board.specs.Edits.{sound_of}
-use Rattle.options.specs.declared.Depth.TheVariants.{None}
 use Rattle.index_check.specs.IndexCheck.{accepts}
 use Rattle.forest.specs.Nodes.{init, last, head, Before}
 use Rattle.paths.specs.Rows.{RowOf}

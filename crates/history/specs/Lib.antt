@@ -2,3 +2,4 @@ pub mod Encoding
 pub mod ReplayLaws
 pub mod EncodedLaws
 pub mod EncodingCases
+pub mod ReplayNumbers

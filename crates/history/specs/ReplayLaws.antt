@@ -12,6 +12,9 @@ use Rattle.board.specs.Edits.{empty_of, rows_of, sound_of, edit}
 use Rattle.machine.specs.Calls.{edits, final}
 use Rattle.history.specs.Encoding.{kind_at, call_at, first_calls, decoded, all_known, replay_refusal, replayed_of, refusals_of}
 use Rattle.history.specs.declared.Replayed.{Replayed}
+use Rattle.history.specs.declared.ReplayRefusal.{ReplayRefusal}
+use Rattle.history.specs.declared.ReplayRefusal.TheVariants.{PartOfCall, UnknownCall, FewWords}
+use Rattle.history.specs.ReplayNumbers.{number_of}
 use Rattle.machine.specs.Machine.{answers, after, start}
 use Rattle.machine.proofs.SimulationLaws.{final_refusals, final_rows, final_kept, final_undone, final_sound}
 
@@ -57,6 +60,11 @@ next_lent words lent now i b r h en eb er =
     ∙ ap (λ (k : ℕ). front (edits empty_of (first_calls words k)) lent) (sym (add-one i))
 
 -- ---- refusal
+
+pub number_some : (r : ReplayRefusal) → 1 ≤ number_of r
+number_some PartOfCall = omega arith
+number_some UnknownCall = omega arith
+number_some FewWords = omega arith
 
 -- where nothing is refused there is a word for each refusal number
 pub replay_room : (words : List ℕ) (room : ℕ) → replay_refusal words room ≡ 0 → length words / 7 ≤ room

@@ -1,5 +1,5 @@
 -- Laws of hops: one hop, the end, the number; the fuel does not matter. The last rank below a parent is within the index. Assumes nothing.
-use Rattle.std.specs.Prelude.{◌≡◌, Bool, true, false, ◌||◌, length, ltb, eqb}
+use Rattle.std.specs.Prelude.{◌≡◌, Result, Ok, Err, Bool, true, false, ◌||◌, length, ltb, eqb}
 use Rattle.std.proofs.Math.Path.{refl, sym, ap}
 use Rattle.std.proofs.Common.{◌∙◌}
 use Rattle.std.proofs.Math.Bool.{cond}
@@ -9,9 +9,12 @@ use Rattle.std.proofs.Math.Decide.{ℕ_discrete}
 use native.Mathlib.Omega.{arith}
 use borrow.Author.Tests.{ltb-false, lt-ltb, le-ltb, eq-eqb, ne_eqb, eqb-false}
 use Rattle.lists.specs.ChoiceLaws.{or_no, cond_agree, cond_short}
+use Rattle.refusal.specs.declared.Refusal.{Refusal}
+use Rattle.refusal.specs.declared.Refusal.TheVariants.{DamagedIndex}
 use Rattle.image.specs.Layout.{node_count, size_at, bad_contents}
 use Rattle.spans.specs.Spans.{bad_rank, bad_span, end_of, parent_end, span_refusal}
 use Rattle.hops.specs.Hops.{hops_from, hops, zero_met, bad_parent}
+use Rattle.hops.specs.HopsLayer.{reached}
 
 module _ (s : List ℕ) (end : ℕ) where
   done_from : (f k : ℕ) → end < k → hops_from s end f k ≡ []
@@ -114,3 +117,11 @@ parent_within s p e = go (ℕ_discrete p 0)
         let n = ne_eqb p 0 z in
         let f = or_no (ltb (node_count s) p) (bad_span s p) (sym (simp n) ∙ e) in
         (ltb-false (node_count s) p f.0, simp n (ltb-false (node_count s) (end_of s p) (or_no (eqb (size_at s p) 0) _ f.1).1))
+
+-- the last rank below a parent is one of the index
+pub last_within : (s : List ℕ) (p last : ℕ) → ◌≡◌ {A = Result ℕ Refusal} (Ok last) (reached s p) → last ≤ node_count s
+last_within s p last e = go (bad_parent s p) refl e
+  where
+    go : (t : Bool) → bad_parent s p ≡ t → ◌≡◌ {A = Result ℕ Refusal} (Ok last) (cond t (Err DamagedIndex) (Ok (parent_end s p))) → last ≤ node_count s
+    go true b q = cc
+    go false b q = let same : last ≡ parent_end s p = cc in omega (arith, parent_within s p b)

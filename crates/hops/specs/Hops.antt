@@ -1,8 +1,10 @@
 -- Paper 02, request 2.9, "Siblings by hops": the ranks met from the parent's first child on, what the call answers to any slice, and what it has in common with siblings. Assumes nothing: these
 -- are definitions.
-use Rattle.std.specs.Prelude.{◌≡◌, ◌≢◌, ℕ, zero, suc, ◌+◌, ◌-◌, List, [], ◌∷◌, Bool, cond, not, ◌||◌, ◌&&◌, length, ltb, eqb}
+use Rattle.std.specs.Prelude.{◌≡◌, ◌≢◌, ℕ, zero, suc, ◌+◌, ◌-◌, List, [], ◌∷◌, Result, Ok, Err, Bool, cond, not, ◌||◌, ◌&&◌, length, ltb, eqb}
 use Rattle.lists.specs.Lists.{any}
 use Rattle.lists.specs.Choice.{first_of}
+use Rattle.refusal.specs.Numbers.{number}
+use Rattle.refusal.specs.declared.Refusal.{Refusal}
 use Rattle.image.specs.Layout.{node_count, size_at, parent_at}
 use Rattle.spans.specs.Spans.{bad_span, parent_end, rank_refusal}
 use Rattle.navigate.specs.Navigate.{sibling_list, siblings_answer, siblings_out, list_refusal, list_out}
@@ -35,6 +37,11 @@ bad_hops s rank = bad_parent s (parent_at s rank) || zero_met s (sibling_hops s 
 
 abbrev pub hops_refusal : List ℕ → ℕ → ℕ
 hops_refusal s rank = first_of (rank_refusal s rank) (cond (bad_hops s rank) 15 0)
+
+-- an answer as C has it: the number of the refusal or 0, and the length of the list, which is the number of hops
+abbrev pub hopped : Result ℕ Refusal → Hopped
+hopped (Ok len) = record { refusal = 0; len = len; hops = len }
+hopped (Err refusal) = record { refusal = number refusal; len = 0; hops = 0 }
 
 -- the result of hops: the length of the list, and a hop from each of its ranks; 0 where it is refused
 abbrev pub hopped_answer : ℕ → List ℕ → List ℕ → Hopped

@@ -6,10 +6,12 @@ ghost use Rattle.std.specs.Prelude.{◌≡◌, false, cond, ◌≤◌, length};
 ghost use Rattle.lists.specs.Lists.{front};
 ghost use Rattle.image.specs.Layout.{bad_contents};
 ghost use Rattle.navigate.specs.Navigate.{list_out};
-ghost use Rattle.hops.specs.Hops.{hops, zero_met, hopped_answer, siblings_by_hops_answer, siblings_by_hops_out};
+ghost use Rattle.hops.specs.Hops.{hopped, hops, zero_met, hopped_answer, siblings_by_hops_answer, siblings_by_hops_out};
 ghost use Rattle.hops.specs.HopsLayer.{reached, counted};
 
-// The answer to a call that lists siblings by hops, with the hops that were made.
+use refusal::Refusal;
+
+// The answer to a call that lists siblings by hops, as C has it: a hop is made from each rank that is listed.
 #[repr(C)]
 #[derive(Clone, Copy)]
 pub struct Hopped {
@@ -18,130 +20,106 @@ pub struct Hopped {
     pub hops: usize,
 }
 
-// The last rank below a parent; 15 where the parent is above n or has no span.
-#[derive(Clone, Copy)]
-struct Reach {
-    refusal: u32,
-    last: usize,
+impl From<Result<usize, Refusal>> for Hopped {
+    ghost from_gives = { λ answer c. c ≡ hopped answer };
+
+    fn from(answer: Result<usize, Refusal>) -> Hopped {
+        match answer {
+            Ok(len) => Hopped {
+                refusal: 0,
+                len,
+                hops: len,
+            },
+            Err(refusal) => Hopped {
+                refusal: refusal.number(),
+                len: 0,
+                hops: 0,
+            },
+        }
+    }
 }
 
-// How far the hops below a parent go.
+// The last rank below a parent; refused where the parent is above n or has no span.
 #[tactic(auto, unfolding(crate::specs::Hops::bad_parent, spans::specs::Spans::bad_rank, spans::specs::Spans::bad_span, image::specs::Layout::bad_contents))]
-fn reach_of(index: &[u32], parent: u32) -> Reach
+fn last_below(index: &[u32], parent: u32) -> Result<usize, Refusal>
     requires { bad_contents index.now ≡ false }
     ensures { result ≡ reached index.now parent }
 {
     if parent == 0 {
-        let n = index[0] as usize;
-        return Reach {
-            refusal: 0,
-            last: n,
-        };
+        return Ok(index[0] as usize);
     }
-    let spanned = spans::span_refusal(index, parent);
-    if spanned != 0 {
-        return Reach {
-            refusal: 15,
-            last: 0,
-        };
-    }
+    spans::check_span(index, parent).map_err(|_| Refusal::DamagedIndex)?;
     let p = parent as usize;
     let size = image::size_at(index, p) as usize;
-    Reach {
-        refusal: 0,
-        last: p + size - 1,
-    }
+    Ok(p + size - 1)
 }
 
-// Hops from the first rank to the last: 15 where a size of 0 is met, else how many ranks are met, one hop from each.
-fn count_hops(index: &[u32], first: usize, last: usize) -> Hopped
-    requires { last ≤ 65535 }
-    ensures { result ≡ counted index.now last first }
-{
-    let mut k = first;
-    let mut met: usize = 0;
-    while k <= last {
-        let size = image::size_at(index, k) as usize;
-        if size == 0 {
-            return Hopped {
-                refusal: 15,
-                len: 0,
-                hops: 0,
-            };
+// Hops over an index from the first rank to the last.
+#[derive(Clone, Copy)]
+struct Hopping<'a> {
+    index: &'a [u32],
+    first: usize,
+    last: usize,
+    ghost few: { last ≤ 65535 },
+}
+
+impl<'a> Hopping<'a> {
+    // Refused where a size of 0 is met, else how many ranks are met.
+    fn count(self) -> Result<usize, Refusal>
+        ensures { hopped result ≡ counted self.entry.index.now self.entry.last self.entry.first }
+    {
+        let mut k = self.first;
+        let mut met: usize = 0;
+        while k <= self.last {
+            let size = image::size_at(self.index, k) as usize;
+            if size == 0 {
+                return Err(Refusal::DamagedIndex);
+            }
+            met += 1;
+            k += size;
         }
-        met += 1;
-        k += size;
+        Ok(met)
     }
-    Hopped {
-        refusal: 0,
-        len: met,
-        hops: met,
-    }
-}
 
-// Hops again, and writes the ranks met.
-fn write_hops(index: &[u32], first: usize, last: usize, out: &mut [u32])
-    requires last_bound { (last ≤ 65535) × (zero_met index.now (hops index.now last first) ≡ false) }
-    requires first_in_bounds { length (hops index.now last first) ≤ length out.old }
-    ensures { out.new ≡ front (hops index.now last first) out.old }
-{
-    let mut k = first;
-    let mut n: usize = 0;
-    while k <= last {
-        let hop = image::size_at(index, k) as usize;
-        out[n] = k as u32;
-        n += 1;
-        k += hop;
+    // Hops again, and writes the ranks met, in a loop of its own: one loop that is given what to do at a rank could not show that the slice has room, and would test for it at each rank.
+    fn write(self, out: &mut [u32])
+        requires sound { zero_met self.index.now (hops self.index.now self.last self.first) ≡ false }
+        requires room { length (hops self.index.now self.last self.first) ≤ length out.old }
+        ensures { out.new ≡ front (hops self.entry.index.now self.entry.last self.entry.first) out.old }
+    {
+        let mut k = self.first;
+        let mut n: usize = 0;
+        while k <= self.last {
+            let hop = image::size_at(self.index, k) as usize;
+            out[n] = k as u32;
+            n += 1;
+            k += hop;
+        }
     }
-}
 
-// Counts first, since hops that are refused must leave the slice as it was.
-fn list_hops(index: &[u32], first: usize, last: usize, out: &mut [u32]) -> Hopped
-    requires { last ≤ 65535 }
-    ensures value { result ≡ hopped_answer (cond (zero_met index.now (hops index.now last first)) 15 0) (hops index.now last first) out.old }
-    ensures out_after { out.new ≡ list_out (cond (zero_met index.now (hops index.now last first)) 15 0) (hops index.now last first) out.old }
-{
-    let found = count_hops(index, first, last);
-    let refusal = found.refusal;
-    let len = found.len;
-    if refusal != 0 {
-        return found;
+    // Counts first, since hops that are refused must leave the slice as it was.
+    fn list(self, out: &mut [u32]) -> Result<usize, Refusal>
+        ensures value { hopped result ≡ hopped_answer (cond (zero_met self.entry.index.now (hops self.entry.index.now self.entry.last self.entry.first)) 15 0) (hops self.entry.index.now self.entry.last self.entry.first) out.old }
+        ensures out_after { out.new ≡ list_out (cond (zero_met self.entry.index.now (hops self.entry.index.now self.entry.last self.entry.first)) 15 0) (hops self.entry.index.now self.entry.last self.entry.first) out.old }
+    {
+        let len = self.count()?;
+        if out.len() < len {
+            return Err(Refusal::ListTooLong);
+        }
+        self.write(out);
+        Ok(len)
     }
-    if out.len() < len {
-        return Hopped {
-            refusal: 16,
-            len: 0,
-            hops: 0,
-        };
-    }
-    write_hops(index, first, last, out);
-    found
 }
 
 // The ranks that hops from the parent's first child meet, rising, at the front of the slice: the siblings, on an index that the check accepts.
-pub fn siblings_by_hops(index: &[u32], rank: u32, out: &mut [u32]) -> Hopped
-    ensures value { result ≡ siblings_by_hops_answer index.now rank out.old }
+pub fn siblings_by_hops(index: &[u32], rank: u32, out: &mut [u32]) -> Result<usize, Refusal>
+    ensures value { hopped result ≡ siblings_by_hops_answer index.now rank out.old }
     ensures out_after { out.new ≡ siblings_by_hops_out index.now rank out.old }
 {
-    let refusal = spans::rank_refusal(index, rank);
-    if refusal != 0 {
-        return Hopped {
-            refusal,
-            len: 0,
-            hops: 0,
-        };
-    }
+    spans::check_rank(index, rank)?;
     let parent = image::parent_at(index, rank as usize);
-    let reach = reach_of(index, parent);
-    let stopped = reach.refusal;
-    let last = reach.last;
-    if stopped != 0 {
-        return Hopped {
-            refusal: stopped,
-            len: 0,
-            hops: 0,
-        };
-    }
+    let last = last_below(index, parent)?;
     let first = parent as usize + 1;
-    list_hops(index, first, last, out)
+    let hopping = Hopping { index, first, last };
+    hopping.list(out)
 }

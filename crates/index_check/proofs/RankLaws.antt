@@ -1,20 +1,20 @@
 -- What the conditions on a rank say of its words, and that a climb through parent ranks finds the parent. Assumes nothing.
-use Rattle.std.specs.Prelude.{◌≡◌, refl, Bool, true, false, cond, ◌&&◌, List, ℕ, ◌+◌, ◌-◌, ◌≤◌, ◌<◌, ltb, leb}
-use Rattle.std.proofs.Common.{ap, ◌∙◌, arith}
+use Rattle.std.specs.Prelude.{◌≡◌, refl, Bool, true, false, ◌&&◌, List, ℕ, ◌+◌, ◌-◌, ◌≤◌, ◌<◌, ltb, leb}
+use Rattle.std.proofs.Common.{sym, ap, ◌∙◌, arith}
 use Rattle.std.proofs.Math.Decide.{ℕ_discrete}
 use borrow.Author.Tests.{ltb-true, lt-ltb, leb-true, le-leb, eqb-true}
 use Rattle.lists.specs.ChoiceLaws.{and_yes}
 use Rattle.lists.specs.Lists.{largest_to}
 use Rattle.lists.specs.RangeLaws.{largest_here, largest_le, largest_above, largest_below}
-use Rattle.image.specs.Layout.{size_at, parent_at, bad_contents, contents_refusal}
+use Rattle.image.specs.Layout.{size_at, parent_at}
 use Rattle.index_check.specs.IndexCheck.{contains, parent_of, size_right, end_right, parent_right, level_right, root_right, bits_right, rank_right}
 
-pub contents_some : (s : List ℕ) → (contents_refusal s ≡ 0 → ⊥) → bad_contents s ≡ true
-contents_some s h = here (bad_contents s) refl
-  where
-    here : (t : Bool) → bad_contents s ≡ t → bad_contents s ≡ true
-    here true e = e
-    here false e = absurd (h (ap (λ (t : Bool). cond t 13 0) e))
+-- a condition that is asked where those before it hold
+pub then_and : (a b v : Bool) → a ≡ true → v ≡ b → v ≡ a && b
+then_and a b v e q = q ∙ sym (ap (λ (t : Bool). t && b) e)
+
+pub else_and : (a b v : Bool) → a ≡ false → v ≡ a → v ≡ a && b
+else_and a b v e q = q ∙ e ∙ sym (ap (λ (t : Bool). t && b) e)
 
 -- all that is asked of a rank
 pub record Right (s : List ℕ) (k : ℕ) : Type 0 where

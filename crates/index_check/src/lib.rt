@@ -25,6 +25,7 @@ fn find_parent(index: &[u32], k: usize) -> usize
     0
 }
 
+#[tactic(auto, unfolding(crate::specs::IndexCheck::size_right))]
 fn size_right(index: &[u32], k: usize) -> bool
     requires { InIndex index.now k }
     ensures { result ≡ size_right index.now k }
@@ -32,6 +33,7 @@ fn size_right(index: &[u32], k: usize) -> bool
     1 <= image::body_of(index, k).size
 }
 
+#[tactic(auto, unfolding(crate::specs::IndexCheck::parent_right))]
 fn parent_right(index: &[u32], k: usize) -> bool
     requires { LowerRight index.now k }
     ensures { result ≡ parent_right index.now k }
@@ -40,6 +42,7 @@ fn parent_right(index: &[u32], k: usize) -> bool
     parent == find_parent(index, k)
 }
 
+#[tactic(auto, unfolding(crate::specs::IndexCheck::end_right))]
 fn end_right(index: &[u32], k: usize) -> bool
     requires { ParentBelow index.now k }
     ensures { result ≡ end_right index.now k }
@@ -48,11 +51,13 @@ fn end_right(index: &[u32], k: usize) -> bool
     let last = k + body.size as usize - 1;
     let parent = body.parent as usize;
     if parent == 0 {
-        return last <= index[0] as usize;
+        last <= index[0] as usize
+    } else {
+        last <= parent + image::body_of(index, parent).size as usize - 1
     }
-    last <= parent + image::body_of(index, parent).size as usize - 1
 }
 
+#[tactic(auto, unfolding(crate::specs::IndexCheck::level_right))]
 fn level_right(index: &[u32], k: usize) -> bool
     requires { ParentBelow index.now k }
     ensures { result ≡ level_right index.now k }
@@ -60,11 +65,13 @@ fn level_right(index: &[u32], k: usize) -> bool
     let body = image::body_of(index, k);
     let parent = body.parent as usize;
     if parent == 0 {
-        return 0 < body.level;
+        0 < body.level
+    } else {
+        image::body_of(index, parent).level < body.level
     }
-    image::body_of(index, parent).level < body.level
 }
 
+#[tactic(auto, unfolding(crate::specs::IndexCheck::root_right))]
 fn root_right(index: &[u32], k: usize) -> bool
     requires { ParentBelow index.now k }
     ensures { result ≡ root_right index.now k }
@@ -72,11 +79,13 @@ fn root_right(index: &[u32], k: usize) -> bool
     let body = image::body_of(index, k);
     let parent = body.parent as usize;
     if parent == 0 {
-        return body.root as usize == k;
+        body.root as usize == k
+    } else {
+        body.root == image::body_of(index, parent).root
     }
-    body.root == image::body_of(index, parent).root
 }
 
+#[tactic(auto, unfolding(crate::specs::IndexCheck::bits_right))]
 fn bits_right(index: &[u32], k: usize) -> bool
     requires { InIndex index.now k }
     ensures { result ≡ bits_right index.now k }
@@ -89,32 +98,20 @@ fn rank_right(index: &[u32], k: usize) -> bool
     requires { LowerRight index.now k }
     ensures { result ≡ rank_right index.now k }
 {
-    if !size_right(index, k) {
-        return false;
-    }
-    if !parent_right(index, k) {
-        return false;
-    }
-    if !end_right(index, k) {
-        return false;
-    }
-    if !level_right(index, k) {
-        return false;
-    }
-    if !root_right(index, k) {
-        return false;
-    }
-    bits_right(index, k)
+    size_right(index, k)
+        && parent_right(index, k)
+        && end_right(index, k)
+        && level_right(index, k)
+        && root_right(index, k)
+        && bits_right(index, k)
 }
 
-// Whether all ranks to n are right.
+// Whether all ranks to n are right. A `for` and not `all`: a rank's condition may be asked only where those of all lower ranks hold, which a closure isn't told.
 fn ranks_right(index: &[u32], n: usize) -> bool
     requires { (n ≤ 65535) × (bodies_end n ≤ length index.now) }
     ensures { result ≡ all_to (rank_right index.now) n }
 {
-    let mut k: usize = 0;
-    while k < n {
-        k += 1;
+    for k in 1..n + 1 {
         if !rank_right(index, k) {
             return false;
         }
@@ -126,18 +123,10 @@ fn zeros_right(index: &[u32]) -> bool
     requires { 8 ≤ length index.now }
     ensures { result ≡ zeros_right index.now }
 {
-    if index[4] != 0 {
-        return false;
-    }
-    if index[5] != 0 {
-        return false;
-    }
-    if index[6] != 0 {
-        return false;
-    }
-    index[7] == 0
+    index[4..8].iter().all(|w| *w == 0)
 }
 
+#[tactic(auto, unfolding(crate::specs::IndexCheck::check_right))]
 fn check_right(index: &[u32], n: u32) -> bool
     requires { (n ≡ node_count index.now) × (n ≤ 65535) × (bodies_end n ≤ length index.now) }
     ensures { result ≡ check_right index.now }
@@ -150,15 +139,8 @@ fn check_right(index: &[u32], n: u32) -> bool
 pub fn index_check(index: &[u32]) -> bool
     ensures { result ≡ accepts index.now }
 {
-    if image::contents_refusal(index) != 0 {
-        return false;
-    }
-    let n = index[0];
-    if !zeros_right(index) {
-        return false;
-    }
-    if !check_right(index, n) {
-        return false;
-    }
-    ranks_right(index, n as usize)
+    image::check_contents(index).is_ok()
+        && zeros_right(index)
+        && check_right(index, index[0])
+        && ranks_right(index, index[0] as usize)
 }

@@ -1,5 +1,5 @@
 -- The steps of request 2.3 over pools of rows: while I is not empty a row is found, each step takes rows out of I, and the listed entries are the rows taken, the only ones. Assumes nothing.
-use Rattle.std.specs.Prelude.{◌≡◌, ◌↔◌, Bool, true, false, ◌&&◌, length, take}
+use Rattle.std.specs.Prelude.{◌≡◌, ◌↔◌, Bool, true, false, ◌&&◌, length, take, None}
 use Rattle.std.proofs.Math.Path.{refl, sym, ap, ap₂, subst}
 use Rattle.std.proofs.Common.{◌∙◌, inl, arith, eqb→eq}
 use Rattle.std.proofs.Math.Logic.{⊎_elim}
@@ -9,7 +9,6 @@ use Prim.Native.Nat.{ℕ, zero, suc, ◌≤◌, ◌<◌}
 use Rattle.std.proofs.Math.Dec.{T, T_not, not_T, eqb}
 use Rattle.std.proofs.Math.ListN.{get_or}
 use Rattle.rows.specs.declared.Row.{Row}
-use Rattle.options.specs.declared.Depth.TheVariants.{None}
 use Rattle.options.specs.Options.{level_limit}
 use Rattle.lists.specs.Lists.{◌∈◌, any, filter, numbers, Increasing}
 use Rattle.lists.specs.MemberLaws.{eq→eqb, or_right, and_out, and_in, any_out, any_in, filter_out, filter_in, filter_short, filter_all, count_less, map_in, map_out, place_of, numbers_in, numbers_rising, increasing_filter}

@@ -1,5 +1,5 @@
 -- The paths that begin with an entry: the pools hold the rows of I at each step, the listed entries are the rows that the request takes, the only ones, and the listed paths are the paths of Islands, in order. Assumes nothing.
-use Rattle.std.specs.Prelude.{◌≡◌, ◌⊎◌, ◌≢◌, ◌↔◌, Bool, cond, ltb, pos, get_or, take}
+use Rattle.std.specs.Prelude.{◌≡◌, ◌⊎◌, ◌≢◌, ◌↔◌, Bool, cond, ltb, pos, get_or, take, None}
 use Rattle.std.proofs.Math.Path.{refl, sym, ap, ap₂, subst, subst₂}
 use Rattle.std.proofs.Common.{◌∙◌, inl, lt→ltb}
 use Rattle.std.proofs.Math.Logic.{inr, ⊎_elim}
@@ -12,7 +12,6 @@ use Rattle.std.proofs.Math.ListN.{length, get_or-append}
 use Rattle.std.proofs.lemmas.List.{length-map}
 use Rattle.rows.specs.Journal.{blank, undated}
 use Rattle.rows.specs.declared.Row.{Row}
-use Rattle.options.specs.declared.Depth.TheVariants.{None}
 use Rattle.lists.specs.Lists.{◌∈◌, Increasing}
 use Rattle.lists.specs.Choice.{smaller_first}
 use Rattle.lists.specs.MemberLaws.{or_left, filter_out, filter_in, filter_agree, flat_map_agree, map_in, map_out, append_out, append_left, append_right, get_d_append_right, increasing_append, increasing_map, increasing_filter}

@@ -1,5 +1,5 @@
 -- The entries are found in one pass over the row numbers, and each step cuts whole child lists, so links to first children alone; the rows reached are those that the walk has written, and below each entry a path closes on its numeral. Assumes nothing.
-use Rattle.std.specs.Prelude.{◌≡◌, ◌⊎◌, ◌≢◌, Bool, true, false, not, ◌&&◌, T, get_or}
+use Rattle.std.specs.Prelude.{◌≡◌, ◌⊎◌, ◌≢◌, Bool, true, false, not, ◌&&◌, T, get_or, None}
 use Rattle.std.proofs.Math.Path.{refl, sym, ap, subst}
 use Rattle.std.proofs.Common.{◌∙◌, inl, inr, T_not}
 use Rattle.std.proofs.Math.Logic.{⊎_elim}
@@ -11,7 +11,6 @@ use Rattle.std.proofs.Math.Dec.{not_T, eqb, eqb→eq}
 use Rattle.std.proofs.Math.ListN.{length, length-append, length-map}
 use Rattle.rows.specs.declared.Row.{Row}
 use Rattle.image.specs.declared.Body.{Body}
-use Rattle.options.specs.declared.Depth.TheVariants.{None}
 use Rattle.lists.specs.Lists.{◌∈◌, filter}
 use Rattle.lists.specs.MemberLaws.{and_out, filter_both, filter_agree, filter_out, filter_none, filter_all, any_out, get_or_in, map_in, map_out}
 use Rattle.paths.specs.Forest.{memb, node, children, next, forest}

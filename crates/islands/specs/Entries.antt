@@ -1,8 +1,7 @@
 -- The islands, the rows that the entries are taken from and the paths that begin with an entry, as executable lists. Beside each list stands the law that says what it holds in the words of Islands.
 -- Assumes nothing: these are definitions.
-use Rattle.std.specs.Prelude.{Bool, not, ◌&&◌, List, [], ◌∷◌, ◌++◌, map, ℕ, zero, suc, eqb, length}
+use Rattle.std.specs.Prelude.{Bool, not, ◌&&◌, List, [], ◌∷◌, ◌++◌, map, ℕ, zero, suc, eqb, length, None}
 use Rattle.rows.specs.declared.Row.{Row}
-use Rattle.options.specs.declared.Depth.TheVariants.{None}
 use Rattle.lists.specs.Lists.{filter, any, numbers}
 use Rattle.paths.specs.Forest.{memb, node, next, forest}
 use Rattle.paths.specs.Rows.{num, par}

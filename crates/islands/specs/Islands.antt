@@ -1,9 +1,8 @@
 -- Paper 02, request 2.3 "Islands join the tree": I, what can be reached from itself, the steps, the entries in the order made and the paths that begin with an entry, all in the request's words.
 -- In a path the k-th entry, from 1, stands as the number length R + k, one that no row has. Builds with a depth make no entry, as sentence 7 refuses a depth with adopt or root. Assumes nothing: these are definitions.
-use Rattle.std.specs.Prelude.{◌≡◌, ◌≢◌, Bool, cond, List, [], ◌∷◌, ◌++◌, map, ℕ, zero, suc, ◌+◌, ◌≤◌, ◌<◌, leb, pos, length, get_or}
+use Rattle.std.specs.Prelude.{◌≡◌, ◌≢◌, Bool, cond, List, [], ◌∷◌, ◌++◌, map, ℕ, zero, suc, ◌+◌, ◌≤◌, ◌<◌, leb, pos, length, get_or, None}
 use Rattle.rows.specs.declared.Row.{Row}
 use Rattle.rows.specs.Journal.{undated}
-use Rattle.options.specs.declared.Depth.TheVariants.{None}
 use Rattle.paths.specs.Rows.{num, par}
 use Rattle.paths.specs.Paths.{last, Unreached, OrphanPath}
 

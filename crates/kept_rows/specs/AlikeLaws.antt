@@ -1,6 +1,6 @@
 -- Two searches over things that correspond: their keys tell them apart alike, and they lead on alike. So the search over positions finds the positions of the rows that the
 -- definition keeps. Assumes nothing.
-use Rattle.std.specs.Prelude.{◌≡◌, ◌⊎◌, ◌↔◌, Bool, true, false, cond, ◌||◌, T, eqb}
+use Rattle.std.specs.Prelude.{◌≡◌, ◌↔◌, Bool, true, false, cond, ◌||◌, T, eqb}
 use Rattle.std.proofs.Math.Path.{refl, sym, ap, ap₂}
 use Rattle.std.proofs.Common.{subst, ◌∙◌, inl, inr, ⊎_elim, eqb→eq}
 use mathlib.Core.List.{List, [], ◌∷◌, ◌++◌, map}

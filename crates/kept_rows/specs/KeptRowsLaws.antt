@@ -1,15 +1,13 @@
 -- What the search and the two masks leave in a table of prepared rows: the links over the hanging rows, and the flags of the kept start rows. Assumes nothing.
-use Rattle.std.specs.Prelude.{◌≡◌, ◌≢◌, ◌↔◌, Bool, ◌&&◌, take, drop, replicate}
+use Rattle.std.specs.Prelude.{◌≡◌, ◌≢◌, ◌↔◌, Bool, ◌&&◌, take, drop, None}
 use Rattle.std.proofs.Math.Path.{refl, sym, ap, ap₂}
 use Rattle.std.proofs.Common.{subst, ◌∙◌, inl, inr, ⊎_elim, zero-add, arith, eqb→eq, take-take, take_at}
 use Rattle.std.proofs.Math.Bool.{true, false, cond, not}
 use mathlib.Core.List.{List, [], ◌++◌, map}
 use Prim.Native.Nat.{ℕ, suc, ◌-◌, ◌≤◌, ◌<◌}
-use Rattle.std.proofs.Math.Decide.{dec_lt}
 use Rattle.std.proofs.lemmas.Bool.{lt-leb}
 use Rattle.std.proofs.Math.Dec.{T, eqb, leb}
-use Rattle.std.proofs.Math.ListN.{length, get_or, get_or-eq_default}
-use Rattle.std.proofs.lemmas.List.{get_or-replicate, length-replicate}
+use Rattle.std.proofs.Math.ListN.{length, get_or}
 use Rattle.std.proofs.Math.Seq.{slice, length-take-le, drop_at}
 use Rattle.lists.specs.Choice.{bit}
 use Rattle.lists.specs.ChoiceLaws.{not_bit}
@@ -17,7 +15,6 @@ use Rattle.lists.specs.Lists.{◌∈◌, filter, numbers, Increasing}
 use Rattle.lists.specs.MemberLaws.{and_out, and_in, is_true, is_false, same_test, filter_out, filter_in, filter_agree, map_out, map_in, map_append, map_agree, append_out, append_right, increasing_filter, increasing_unique, numbers_in, numbers_out, numbers_rising}
 use Rattle.lists.specs.CountingLaws.{by_place}
 use Rattle.rows.specs.declared.Row.{Row}
-use Rattle.options.specs.declared.Depth.TheVariants.{None}
 use Rattle.paths.specs.Forest.{memb}
 use Rattle.paths.proofs.ForestLaws.{memb_in, memb_out}
 use Rattle.paths.specs.Rows.{num, par}
@@ -32,7 +29,7 @@ use Rattle.links.specs.ChildrenLaws.{parent_long, parent_at_lem, numeral_at_lem,
 use Rattle.links.specs.PreparedLayer.{Prepared, StartFlags, WithNumerals}
 use Rattle.orphans.specs.OutsideLayer.{outside_at, top_at, top_flags, OutsideLinked}
 use Rattle.passes.specs.PassesLayer.{reached_flags}
-use Rattle.walk.specs.WalkLayer.{rows_of, row_of, ListsChildren, Clear, flagged}
+use Rattle.walk.specs.WalkLayer.{rows_of, row_of, ListsChildren, flagged}
 use Rattle.rings.specs.RingsLayer.{RowsKept}
 use Rattle.enumerate.specs.EnumerateLayer.{outside}
 use Rattle.enumerate.specs.EnumerateLaws.{all_starts}

@@ -1,5 +1,5 @@
 -- A walk of a table whose rows are linked over the hanging rows writes the bodies of the kept paths. Assumes nothing.
-use Rattle.std.specs.Prelude.{◌≡◌, refl, Bool, false, List, [], map, ℕ, suc, ◌+◌, ◌-◌, length}
+use Rattle.std.specs.Prelude.{◌≡◌, Bool, false, List, [], map, ℕ, suc, ◌+◌, ◌-◌, length}
 use Rattle.std.proofs.Common.{sym, ap, ap₂, subst, ◌∙◌, arith}
 use Rattle.rows.specs.declared.Row.{Row}
 use Rattle.image.specs.declared.Body.{Body}

@@ -2,7 +2,7 @@
 // below the kept row that stands above it, and the kept start rows are flagged.
 #![tactic(auto)]
 
-ghost use Rattle.std.specs.Prelude.{◌≡◌, Bool, List, [], ◌∷◌, ℕ, ◌+◌, ◌*◌, ◌≤◌, ◌<◌, length, replicate, take};
+ghost use Rattle.std.specs.Prelude.{◌≡◌, Bool, List, [], ◌∷◌, ℕ, ◌+◌, ◌*◌, ◌≤◌, ◌<◌, length, take};
 ghost use Rattle.std.proofs.Math.Seq.{slice};
 ghost use Rattle.rows.specs.declared.Row.{Row};
 ghost use Rattle.table.specs.TableLayer.{row_column, class_column, flag_column};
@@ -56,15 +56,12 @@ fn meet_starts(table: &[u32], flags: &mut [u32], queue: &mut [u32]) -> usize
     ensures { Met (class_column table.now) (flagged (flag_column table.now) 0 (length (class_column table.now))) queue.old queue.new 0 result flags.new }
 {
     let n = table::rows(table) as u32;
-    let mut p = 0;
     let mut end: usize = 0;
-    while p < n {
-        if table::flag(table, p) != 1 {
-            p += 1;
-            continue;
+    for p in 0..n {
+        let is_start = table::flag(table, p) == 1;
+        if is_start {
+            end = meet(p, end, table, flags, queue);
         }
-        end = meet(p, end, table, flags, queue);
-        p += 1;
     }
     end
 }
@@ -84,28 +81,15 @@ fn search(tail: usize, table: &[u32], flags: &mut [u32], queue: &mut [u32]) -> u
     end
 }
 
-// Every word 1.
-fn set_all(flags: &mut [u32])
-    ensures { flags.new ≡ replicate (length flags.old) 1 }
-{
-    let mut k = 0;
-    while k < flags.len() {
-        flags[k] = 1;
-        k += 1;
-    }
-}
-
 // Flags each row, by its number, but those at the positions that the queue has from `tops` to before `end`.
 fn mark_others(tops: usize, end: usize, table: &[u32], flags: &mut [u32], queue: &[u32])
     requires { (tops ≤ end) × (end ≤ length queue.now) × RowsAt (row_column table.now) queue.now end (length flags.old) }
     ensures { flags.new ≡ others_marked (rows_at (row_column table.now) (slice tops end queue.now)) (length flags.old) }
 {
-    set_all(flags);
-    let mut k = tops;
-    while k < end {
-        let x = table::row(table, lists::get(queue, k)) as usize;
+    flags.fill(1);
+    for p in &queue[tops..end] {
+        let x = table::row(table, *p) as usize;
         flags[x - 1] = 0;
-        k += 1;
     }
 }
 
@@ -114,10 +98,8 @@ fn flag_kept(tops: usize, table: &mut [u32], queue: &[u32])
     requires { (tops ≤ length queue.now) × RowsAt (row_column table.old) queue.now tops (length (row_column table.old)) }
     ensures { Flagged (take tops queue.now) table.old table.new }
 {
-    let mut k = 0;
-    while k < tops {
-        table::set_flag(table, lists::get(queue, k), 1);
-        k += 1;
+    for p in &queue[..tops] {
+        table::set_flag(table, *p, 1);
     }
 }
 
@@ -133,7 +115,7 @@ fn keep_shortest(table: &mut [u32], flags: &mut [u32], queue: &mut [u32])
     mark_others(tops, end, table, flags, queue);
     orphans::link_outside(table, flags);
     flag_kept(tops, table, queue);
-    lists::clear(queue);
+    queue.fill(0);
 }
 
 // The nodes of shortest placement: their bodies go to the index from word 8 on. A count above `cap` says that there are more.
@@ -158,10 +140,7 @@ pub fn walk_shortest(
         root: 0,
         orphan: false,
     };
-    let bounds = Bounds {
-        limit: n + 1,
-        cap: cap,
-    };
+    let bounds = Bounds { limit: n + 1, cap };
     let none = Progress { count: 0, check: 0 };
     walk::roots(0, n, top, bounds, none, table, queue, index)
 }

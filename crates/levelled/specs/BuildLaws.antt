@@ -14,7 +14,7 @@ use Rattle.image.specs.Layout.{flat, checked, contents_words, image_words}
 use Rattle.image.specs.ImageLaws.{length_flat, image_written}
 use Rattle.built.specs.declared.Built.{Built}
 use Rattle.built.specs.Room.{refusal9}
-use Rattle.built.specs.RefusedLayer.{refused_by}
+use Rattle.built.specs.Answered.{refused_by}
 use Rattle.levels.specs.Levelled.{line_before, lines_of, sorted_lines, levelled_bodies, blank_line, node_number, refusal18, refusal19, levelled_refusal, levelled_built, levelled_index, levelled_totals}
 use Rattle.levels.specs.LineLayer.{lines_at, Ready}
 use Rattle.built.specs.OutcomeLaws.{attempt_refused, settled_index, settled_totals}
@@ -122,9 +122,6 @@ module _ (s : List ℕ) (w : ℕ) where
   pub too_many : 512 < length s / w → refusal19 s w ≡ true
   too_many h = lt-ltb 512 (length s / w) h
 
-  pub few_lines : length s / w ≤ 512 → refusal19 s w ≡ false
-  few_lines h = le-ltb 512 (length s / w) h
-
 -- ---- once it is settled
 
 module _ (s : List ℕ) (w : ℕ) (index index' : List ℕ) (totals totals' : List ℤ) (r : Built) (v : ListAttempted s w index index' totals totals' r) where
@@ -139,7 +136,3 @@ module _ (s : List ℕ) (w : ℕ) (index index' : List ℕ) (totals totals' : Li
   pub list_totals : (totals'' : List ℤ) → length totals' ≡ length totals → totals'' ≡ cond (eqb r.refusal 0) totals' (replicate (length totals') (pos 0)) → totals'' ≡ levelled_totals s w (length index) totals
   unfolding levelled_totals
   list_totals = settled_totals (levelled_outcome s w) index index' totals totals' r v
-
--- the first n of so many
-pub taken : (n m : ℕ) (xs : List ℕ) → length xs ≡ m → n ≤ m → length (take n xs) ≡ n
-taken n m xs e h = length-take-le n xs (omega arith)

@@ -2,10 +2,8 @@
 // nodes one line for each: rank, tree size, parent rank, level, root rank, numeral, row number.
 #![tactic(auto)]
 
-ghost use Rattle.std.specs.Prelude.{◌≤◌};
-
 use built::Built;
-use cases::{answer, number, say};
+use cases::yes_or_no;
 use levelled::build_levelled;
 use std::io;
 
@@ -23,99 +21,78 @@ const GAPS: [u32; 9] = [0, 5, 0, 1, 0, 5, 1, 5, 0];
 // Of five lines two are equal and two wholly blank: three nodes.
 const DOUBLED: [u32; 10] = [7, 9, 0, 0, 7, 8, 0, 0, 7, 8];
 
-// Whether every word from a place on is one value.
-fn words_are(list: &[u32], from: usize, value: u32) -> bool {
-    for i in from..list.len() {
-        if list[i] != value {
-            return false;
-        }
-    }
-    true
-}
-
-// What a total that was 7 is at a place of which so many in front are set to 0.
-fn expected(place: usize, zeros: usize) -> i64 {
-    if place < zeros { 0 } else { 7 }
+fn all_are<T: PartialEq + Copy>(list: &[T], value: T) -> bool {
+    list.iter().all(|item| *item == value)
 }
 
 // Whether so many totals in front are 0, and all others 7.
 fn zeros_in_front(totals: &[i64], zeros: usize) -> bool {
-    for (i, total) in totals.iter().enumerate() {
-        if *total != expected(i, zeros) {
-            return false;
-        }
-    }
-    true
+    totals
+        .iter()
+        .enumerate()
+        .all(|(i, total)| *total == if i < zeros { 0 } else { 7 })
 }
 
-fn report(rt: &impl Print, name: &[u8], built: Built) -> io::Result<()> {
-    say(rt, name)?;
-    say(rt, b": refusal")?;
-    number(rt, built.refusal)?;
-    say(rt, b", nodes")?;
-    number(rt, built.nodes)?;
-    say(rt, b", blank lines")?;
-    number(rt, built.left)
+fn report(rt: &impl Print, name: &str, built: Built) -> io::Result<()> {
+    print!(rt;
+        "{name}: refusal {}, nodes {}, blank lines {}",
+        built.refusal, built.nodes, built.left
+    )
 }
 
 fn node(rt: &impl Print, index: &[u32], rank: u32) -> io::Result<()> {
     let k = rank as usize;
-    number(rt, rank)?;
-    number(rt, image::size_at(index, k))?;
-    number(rt, image::parent_at(index, k))?;
-    number(rt, packed::level_of(image::word_at(index, k)))?;
-    number(rt, image::root_at(index, k))?;
-    number(rt, image::numeral_at(index, k))?;
-    number(rt, image::row_at(index, k))?;
-    say(rt, b"\n")
-}
-
-fn nodes(rt: &impl Print, index: &[u32], n: u32) -> io::Result<()> {
-    for rank in 1..=n {
-        node(rt, index, rank)?;
-    }
-    Ok(())
+    let size = image::size_at(index, k);
+    let parent = image::parent_at(index, k);
+    let level = packed::level_of(image::word_at(index, k));
+    let root = image::root_at(index, k);
+    let numeral = image::numeral_at(index, k);
+    let row = image::row_at(index, k);
+    println!(rt; " {rank} {size} {parent} {level} {root} {numeral} {row}")
 }
 
 // A build into slices for fifteen nodes, filled with 7.
-fn listed(rt: &impl Print, name: &[u8], lines: &[u32], width: u32) -> io::Result<()> {
+fn listed(rt: &impl Print, name: &str, lines: &[u32], width: u32) -> io::Result<()> {
     let mut index = [7u32; 98];
     let mut totals = [7i64; 16];
-    let built = build_levelled(lines, width, &mut index, &mut totals);
+    let built = Built::from(build_levelled(lines, width, &mut index, &mut totals));
     report(rt, name, built)?;
-    say(rt, b", index accepted")?;
-    answer(rt, index_check::index_check(&index))?;
-    say(rt, b", words beyond unchanged")?;
-    answer(rt, words_are(&index, image::bodies_end(built.nodes), 7))?;
-    say(rt, b", one zero total more than nodes")?;
-    answer(rt, zeros_in_front(&totals, built.nodes as usize + 1))?;
-    say(rt, b"\n")?;
-    nodes(rt, &index, built.nodes)
+    let accepted = yes_or_no(index_check::index_check(&index));
+    let beyond = index.get(image::bodies_end(built.nodes)..);
+    let unchanged = yes_or_no(beyond.is_none_or(|words| all_are(words, 7)));
+    let zeros = yes_or_no(zeros_in_front(&totals, built.nodes as usize + 1));
+    println!(rt;
+        ", index accepted {accepted}, words beyond unchanged {unchanged}, one zero total more than nodes {zeros}"
+    )?;
+    for rank in 1..=built.nodes {
+        node(rt, &index, rank)?;
+    }
+    Ok(())
 }
 
 // A build into slices of any lengths.
 fn asked(
     rt: &impl Print,
-    name: &[u8],
+    name: &str,
     lines: &[u32],
     width: u32,
     index: &mut [u32],
     totals: &mut [i64],
 ) -> io::Result<()> {
-    let built = build_levelled(lines, width, index, totals);
+    let built = Built::from(build_levelled(lines, width, index, totals));
     report(rt, name, built)?;
-    say(rt, b", index zero")?;
-    answer(rt, words_are(index, 0, 0))?;
-    say(rt, b", totals zero")?;
-    answer(rt, zeros_in_front(totals, totals.len()))?;
-    say(rt, b"\n")
+    let zero = yes_or_no(all_are(index, 0));
+    println!(rt;
+        ", index zero {zero}, totals zero {}",
+        yes_or_no(all_are(totals, 0))
+    )
 }
 
 // The numbers from 4,096 down to 1.
 fn falling() -> [u32; 4096] {
     let mut lines = [0u32; 4096];
-    for i in 0..4096u32 {
-        lines[i as usize] = 4096 - i;
+    for (line, number) in lines.iter_mut().zip((1..=4096).rev()) {
+        *line = number;
     }
     lines
 }
@@ -127,36 +104,31 @@ fn largest(rt: &impl Print) -> io::Result<()> {
     let mut totals = [7i64; 4097];
     report(
         rt,
-        b"512 lines of 8 cells",
-        build_levelled(&lines, 8, &mut index, &mut totals),
+        "512 lines of 8 cells",
+        Built::from(build_levelled(&lines, 8, &mut index, &mut totals)),
     )?;
-    say(rt, b", index accepted")?;
-    answer(rt, index_check::index_check(&index))?;
-    say(rt, b", last row number")?;
-    number(rt, image::row_at(&index, 4096))?;
-    say(rt, b"\n")
+    let accepted = yes_or_no(index_check::index_check(&index));
+    println!(rt;
+        ", index accepted {accepted}, last row number {}",
+        image::row_at(&index, 4096)
+    )
 }
 
 fn tables(rt: &impl Print) -> io::Result<()> {
-    listed(rt, b"guide, six columns", &SIX_COLUMNS, 6)?;
-    listed(rt, b"guide, four columns", &FOUR_COLUMNS, 4)?;
-    listed(rt, b"blanks in front, between and behind", &GAPS, 3)?;
-    listed(rt, b"equal and blank lines", &DOUBLED, 2)?;
-    listed(
-        rt,
-        b"the widest numbers",
-        &[4294967295, 0, 1, 4294967294],
-        1,
-    )?;
-    listed(rt, b"blank lines alone", &[0, 0, 0, 0, 0, 0], 3)?;
-    listed(rt, b"no lines", &[], 8)
+    listed(rt, "guide, six columns", &SIX_COLUMNS, 6)?;
+    listed(rt, "guide, four columns", &FOUR_COLUMNS, 4)?;
+    listed(rt, "blanks in front, between and behind", &GAPS, 3)?;
+    listed(rt, "equal and blank lines", &DOUBLED, 2)?;
+    listed(rt, "the widest numbers", &[4294967295, 0, 1, 4294967294], 1)?;
+    listed(rt, "blank lines alone", &[0, 0, 0, 0, 0, 0], 3)?;
+    listed(rt, "no lines", &[], 8)
 }
 
 fn line_limits(rt: &impl Print) -> io::Result<()> {
-    asked(rt, b"width 0", &DOUBLED, 0, &mut [7; 26], &mut [7; 4])?;
+    asked(rt, "width 0", &DOUBLED, 0, &mut [7; 26], &mut [7; 4])?;
     asked(
         rt,
-        b"width 9",
+        "width 9",
         &[1, 2, 3, 4, 5, 6, 7, 8, 9],
         9,
         &mut [7; 26],
@@ -164,16 +136,16 @@ fn line_limits(rt: &impl Print) -> io::Result<()> {
     )?;
     asked(
         rt,
-        b"a cell short of whole lines",
+        "a cell short of whole lines",
         &DOUBLED[..9],
         2,
         &mut [7; 26],
         &mut [7; 4],
     )?;
-    asked(rt, b"513 lines", &[5; 513], 1, &mut [7; 26], &mut [7; 4])?;
+    asked(rt, "513 lines", &[5; 513], 1, &mut [7; 26], &mut [7; 4])?;
     asked(
         rt,
-        b"512 equal lines",
+        "512 equal lines",
         &[5; 512],
         1,
         &mut [7; 14],
@@ -184,7 +156,7 @@ fn line_limits(rt: &impl Print) -> io::Result<()> {
 fn slice_limits(rt: &impl Print) -> io::Result<()> {
     asked(
         rt,
-        b"index as long as needed",
+        "index as long as needed",
         &DOUBLED,
         2,
         &mut [7; 26],
@@ -192,7 +164,7 @@ fn slice_limits(rt: &impl Print) -> io::Result<()> {
     )?;
     asked(
         rt,
-        b"index one word short",
+        "index one word short",
         &DOUBLED,
         2,
         &mut [7; 25],
@@ -200,7 +172,7 @@ fn slice_limits(rt: &impl Print) -> io::Result<()> {
     )?;
     asked(
         rt,
-        b"totals one short",
+        "totals one short",
         &DOUBLED,
         2,
         &mut [7; 26],
@@ -208,7 +180,7 @@ fn slice_limits(rt: &impl Print) -> io::Result<()> {
     )?;
     asked(
         rt,
-        b"seven words for no nodes",
+        "seven words for no nodes",
         &[],
         1,
         &mut [7; 7],
@@ -217,16 +189,9 @@ fn slice_limits(rt: &impl Print) -> io::Result<()> {
 }
 
 fn refusals_in_order(rt: &impl Print) -> io::Result<()> {
-    asked(
-        rt,
-        b"18 before 19",
-        &[5; 1027],
-        2,
-        &mut [7; 26],
-        &mut [7; 4],
-    )?;
-    asked(rt, b"19 before 9", &[5; 513], 1, &mut [7; 0], &mut [7; 0])?;
-    asked(rt, b"18 before 9", &[5; 3], 2, &mut [7; 0], &mut [7; 0])
+    asked(rt, "18 before 19", &[5; 1027], 2, &mut [7; 26], &mut [7; 4])?;
+    asked(rt, "19 before 9", &[5; 513], 1, &mut [7; 0], &mut [7; 0])?;
+    asked(rt, "18 before 9", &[5; 3], 2, &mut [7; 0], &mut [7; 0])
 }
 
 fn main(rt: HostRuntime) -> io::Result<()> {

@@ -1,16 +1,17 @@
 -- Counting the nodes of a levelled list line by line, by what each line is the first to have. Assumes nothing.
-use Rattle.std.specs.Prelude.{◌≡◌, refl, List, [], ℕ, zero, suc, ◌+◌, ◌*◌, ◌-◌, ◌≤◌, ◌<◌, length, get_or, drop, set}
-use Rattle.std.proofs.Common.{sym, ap, ap₂, ◌∙◌, arith, length-append, length-set, get_or-set_same, get_or-set_other}
+use Rattle.std.specs.Prelude.{◌≡◌, List, [], ℕ, zero, suc, ◌+◌, ◌*◌, ◌≤◌, ◌<◌, not, eqb, length, get_or, drop, set, count_by}
+use Rattle.std.proofs.Common.{sym, subst, ap, ap₂, ◌∙◌, arith, length-append, length-drop, length-set, get_or-set_same, get_or-set_other}
 use Rattle.std.proofs.Math.Decide.{dec_lt, ℕ_discrete}
-use Rattle.levels.specs.Levelled.{sorted_lines, levelled_nodes}
-use Rattle.levels.specs.LineLayer.{cells, line_at, filled_number, Ready}
+use Rattle.lists.specs.MemberLaws.{filter_short}
+use Rattle.levels.specs.Levelled.{is_blank, sorted_lines, levelled_nodes}
+use Rattle.levels.specs.LineLayer.{filled_number, common, Ready}
 use Rattle.levels.specs.PassLayer.{line_beside, fresh_beginnings, pass_at}
-use Rattle.levels.proofs.CellLaws.{drop_cells, filled_few}
 use Rattle.levels.proofs.NodeLaws.{one_pass}
 use Rattle.levels.proofs.PassLaws.{fresh_number, pass_next, pass_end}
 use Rattle.levels.proofs.LevelledLaws.{list_sorted}
 use Rattle.line_counts.specs.CountLayer.{CountsBefore}
-use Rattle.line_counts.specs.ReadyLaws.{lines_length, line_at_lem, at_shared, shared_small}
+use Rattle.line_counts.specs.ReadyLaws.{lines_length, line_length, at_shared}
+use Rattle.line_counts.specs.BlankLaws.{filter_count}
 
 module _ {s : List ℕ} {w : ℕ} {order shared : List ℕ} (ready : Ready s w order shared) where
   abbrev S : List (List ℕ)
@@ -19,20 +20,19 @@ module _ {s : List ℕ} {w : ℕ} {order shared : List ℕ} (ready : Ready s w o
   nodes_pass : levelled_nodes S ≡ pass_at S 0
   nodes_pass = one_pass S (list_sorted s w)
 
-  pub new_number : (i number from r : ℕ) → i < length order → number ≡ get_or order i 0 → from ≡ get_or shared i 0 → r ≡ filled_number (cells s (w - from) (number * w + from))
+  pub new_number : (i from r : ℕ) (l : List ℕ) → i < length order → l ≡ get_or (sorted_lines s w) i [] → from ≡ get_or shared i 0 → r ≡ count_by (λ c. not (eqb c 0)) (drop from l)
       → r ≡ length (fresh_beginnings (line_beside (sorted_lines s w) i) (get_or (sorted_lines s w) i []))
-  new_number i number from r h e f q =
+  new_number i from r l h e f q =
       q
-      ∙ ap filled_number (sym (drop_cells s w (number * w) from (omega (arith, f, shared_small ready i h))))
-      ∙ ap₂ (λ n l. filled_number (drop n l)) (f ∙ at_shared ready i h) (ap (line_at s w) e ∙ sym (line_at_lem ready i h))
+      ∙ sym (filter_count (λ c. not (eqb c 0)) (drop from l))
+      ∙ ap₂ (λ n m. filled_number (drop n m)) (f ∙ at_shared ready i h) e
       ∙ sym (fresh_number (line_beside S i) (get_or S i []))
 
   fresh_few : (i : ℕ) → i < length order → length (fresh_beginnings (line_beside S i) (get_or S i [])) ≤ 8
   fresh_few i h =
-      let a = get_or order i 0 in
-      let f = get_or shared i 0 in
-      let e = new_number i a f (filled_number (cells s (w - f) (a * w + f))) h refl refl refl in
-      omega (arith, e, filled_few s w (a * w) f, ready.narrow)
+      let l = get_or S i [] in
+      let n = common (line_beside S i) l in
+      omega (arith, fresh_number (line_beside S i) l, filter_short (λ c. not (is_blank c)) (drop n l), length-drop n l, line_length ready i h, ready.narrow)
 
   -- the rest of the pass from one line to the next
   count_next : (i : ℕ) → i < length order → length (pass_at S i) ≡ length (fresh_beginnings (line_beside S i) (get_or S i [])) + length (pass_at S (i + 1))
@@ -81,8 +81,10 @@ module _ {s : List ℕ} {w : ℕ} {order shared : List ℕ} (ready : Ready s w o
   pub counting_few : (i n r : ℕ) (firsts : List ℕ) → i < length order → r ≡ length (fresh_beginnings (line_beside (sorted_lines s w) i) (get_or (sorted_lines s w) i [])) → Counting i n firsts → n + r ≤ 4096
   counting_few i n r firsts h e v = omega (arith, v.here, count_next i h, few_nodes)
 
-  pub counting_end : (i n : ℕ) (firsts : List ℕ) → length order ≤ i → Counting i n firsts → (n ≡ length (levelled_nodes (sorted_lines s w))) × CountsBefore (sorted_lines s w) (set firsts i n)
-  counting_end i n firsts h v = (
-    omega (arith, v.here, count_end i h),
-    record { long = omega (arith, length-set firsts i n, v.long, lines_length ready); counts = λ j b. put_count i n firsts v j (omega (arith, lines_length ready, h)) },
-  )
+  pub counting_end : (i n : ℕ) (firsts : List ℕ) → length order ≤ i → Counting i n firsts → (n ≡ length (levelled_nodes (sorted_lines s w))) × CountsBefore (sorted_lines s w) (set firsts (length order) n)
+  counting_end i n firsts h v =
+      let e : i ≡ length order = omega (arith, v.within) in (
+        omega (arith, v.here, count_end i h),
+        subst (λ k. CountsBefore (sorted_lines s w) (set firsts k n)) e
+            record { long = omega (arith, length-set firsts i n, v.long, lines_length ready); counts = λ j b. put_count i n firsts v j (omega (arith, lines_length ready, h)) },
+      )

@@ -21,16 +21,15 @@ use Rattle.forest.specs.Nodes.{last_node, rank_of, tree_size}
 use Rattle.forest.proofs.BeginningLaws.{begins_trans}
 use Rattle.forest.proofs.ForestLaws.{node_rank, rank_of_node, no_rank_lem}
 use Rattle.levels.specs.Levelled.{lines_of, line_before, sorted_lines, filled_beginnings, levelled_nodes, levelled_body, levelled_bodies}
-use Rattle.levels.specs.LineLayer.{line_at, filled_number, common, Ready}
+use Rattle.levels.specs.LineLayer.{filled_number, common, Ready}
 use Rattle.levels.specs.PassLayer.{line_beside, fresh_beginnings, pass_at, longer}
 use Rattle.levels.proofs.LineLaws.{Upto, take_begins, begins_take, last_take, beginnings_out}
-use Rattle.levels.proofs.CellLaws.{cells_length, get_or_cells}
 use Rattle.levels.proofs.NodeLaws.{nodes_are, one_pass}
 use Rattle.levels.proofs.PassLaws.{common_le, common_beside, common_begins, fresh_longer, longer_yes, longer_no, longer_end, longer_number, pass_next, pass_end, prev_next, earlier_no, size_by_end}
 use Rattle.levels.proofs.UpLaws.{beginnings_more, beginnings_same, last_of_more, init_take, place_first}
 use Rattle.levels.proofs.LevelledLaws.{list_wide, list_sorted, levelled_forest}
 use Rattle.line_counts.specs.CountLayer.{CountsBefore}
-use Rattle.line_counts.specs.ReadyLaws.{lines_length, shared_long, line_at_lem, at_shared, shared_small}
+use Rattle.line_counts.specs.ReadyLaws.{lines_length, shared_long, at_shared, shared_small}
 use Rattle.line_writing.specs.declared.Line.{Line}
 use Rattle.line_writing.specs.WriteLayer.{NextLine, TreeEnds, EndsAt, end_of, parent_up_to, root_up_to, ParentsTo, InPlace, Between, Words}
 
@@ -59,9 +58,9 @@ module _ {s : List ℕ} {w : ℕ} {order shared : List ℕ} (ready : Ready s w o
   }
 
   -- a line's columns by the lines
-  pub ends_at : (firsts ends : List ℕ) (i number from next after : ℕ) → i < length order → CountsBefore (sorted_lines s w) firsts → from ≡ get_or shared i 0 → next ≡ get_or shared (i + 1) 0 → after ≡ get_or firsts (i + 1) 0
-      → TreeEnds shared firsts i next ends → (c : ℕ) → from ≤ c → c < w → EndsAt (sorted_lines s w) i c (end_of (record { number = number; place = i; shared = from; next = next; after = after }) ends c)
-  ends_at firsts ends i number from next after at counts ef en ea t c a b = go (dec_lt c next)
+  pub ends_at : (firsts ends : List ℕ) (i from next after : ℕ) → i < length order → CountsBefore (sorted_lines s w) firsts → from ≡ get_or shared i 0 → next ≡ get_or shared (i + 1) 0 → after ≡ get_or firsts (i + 1) 0
+      → TreeEnds shared firsts i next ends → (c : ℕ) → from ≤ c → c < w → EndsAt (sorted_lines s w) i c (end_of (record { place = i; shared = from; next = next; after = after }) ends c)
+  ends_at firsts ends i from next after at counts ef en ea t c a b = go (dec_lt c next)
     where
       go : Dec (c < next) → EndsAt S i c (cond (ltb c next) (get_or ends c 0) after)
       go (yes h) = let r = t c (omega arith) h in subst (λ q. EndsAt S i c (cond q (get_or ends c 0) after)) (sym (lt-ltb c next h)) (ended firsts i c r.0 (get_or ends c 0) counts r.1 r.2)
@@ -69,38 +68,12 @@ module _ {s : List ℕ} {w : ℕ} {order shared : List ℕ} (ready : Ready s w o
           subst (λ q. EndsAt S i c (cond q (get_or ends c 0) after)) (sym (le-ltb c next (omega arith)))
           (ended firsts i c (i + 1) after counts (record { low = omega arith; high = omega (arith, shared_long ready, lines_length ready); share = λ k x y. absurd (omega arith); stops = λ d. omega arith }) ea)
 
-  pub in_place : (i number from next after : ℕ) → i < length order → number ≡ get_or order i 0 → from ≡ get_or shared i 0 → InPlace s w (record { number = number; place = i; shared = from; next = next; after = after })
-  in_place i number from next after h e f = record {
+  pub in_place : (i from next after : ℕ) → i < length order → from ≡ get_or shared i 0 → InPlace s w (record { place = i; shared = from; next = next; after = after })
+  in_place i from next after h f = record {
     within = omega (arith, lines_length ready);
-    inside = subst (λ k. k * w + w ≤ length s) (sym e) (ready.inside i h);
     few = omega (arith, ready.few);
-    cells_are = ap (line_at s w) e ∙ sym (line_at_lem ready i h);
     shares = f ∙ at_shared ready i h;
   }
-
--- ---- turns of the loop that looks for the next line
-
-module _ (shared : List ℕ) (c from : ℕ) where
-  pub record Passing (j : ℕ) : Type 0 where
-    pub low : from ≤ j
-    pub high : j ≤ length shared
-    pub share : (k : ℕ) → from ≤ k → k < j → c < get_or shared k 0
-
-  pub passing_start : from ≤ length shared → Passing from
-  passing_start h = record { low = omega arith; high = h; share = λ k a b. absurd (omega arith) }
-
-  pub passing_more : (j x : ℕ) → j < length shared → x ≡ get_or shared j 0 → c < x → Passing j → Passing (j + 1)
-  passing_more j x h e l v = record { low = omega (arith, v.low); high = omega arith; share = λ k a b. go k a b (ℕ_discrete k j) }
-    where
-      go : (k : ℕ) → from ≤ k → k < j + 1 → Dec (k ≡ j) → c < get_or shared k 0
-      go k a b (yes q) = omega (arith, ap (λ i. get_or shared i 0) q)
-      go k a b (no q) = v.share k a (omega arith)
-
-  pub passing_stop : (j x : ℕ) → j < length shared → x ≡ get_or shared j 0 → x ≤ c → Passing j → NextLine shared c from j
-  passing_stop j x h e l v = record { low = v.low; high = v.high; share = v.share; stops = λ h. omega arith }
-
-  pub passing_end : (j : ℕ) → length shared ≤ j → Passing j → NextLine shared c from j
-  passing_end j h v = record { low = v.low; high = v.high; share = v.share; stops = λ b. absurd (omega arith) }
 
 -- ---- turns of the loop over a line's columns from the right
 
@@ -112,9 +85,6 @@ module _ (shared firsts : List ℕ) (i w : ℕ) where
     pub high : j ≤ length shared
     pub share : (k : ℕ) → i + 1 ≤ k → k < j → c < get_or shared k 0
     pub done : (d : ℕ) → c ≤ d → d < w → (j : ℕ) × NextLine shared d (i + 1) j × (get_or ends d 0 ≡ get_or firsts j 0)
-
-  pub ending_start : (ends : List ℕ) → length ends ≡ 8 → i < length shared → Ending w (i + 1) ends
-  ending_start ends e h = record { long = e; low = omega arith; high = omega arith; share = λ k a b. absurd (omega arith); done = λ d a b. absurd (omega arith) }
 
   pub ending_step : (c j j' x : ℕ) (ends : List ℕ) → 0 < c → c ≤ 8 → NextLine shared (c - 1) j j' → x ≡ get_or firsts j' 0 → Ending c j ends → Ending (c - 1) j' (set ends (c - 1) x)
   ending_step c j j' x ends p h n e v = record {
@@ -139,9 +109,6 @@ module _ (shared firsts : List ℕ) (i w : ℕ) where
         ap (λ z. get_or (set ends (c - 1) x) z 0) q ∙ get_or-set_same ends (c - 1) x 0 (omega (arith, v.long)) ∙ e,
       )
       go d a b (no q) = let r = v.done d (omega arith) b in (r.0, r.1, get_or-set_other ends (c - 1) d x 0 q ∙ r.2)
-
-  pub ending_end : (c j : ℕ) (ends : List ℕ) → c ≤ get_or shared i 0 → Ending c j ends → TreeEnds shared firsts i w ends
-  ending_end c j ends h v d a b = v.done d (omega arith) b
 
 -- ---- what stands above a column
 
@@ -289,15 +256,12 @@ module _ (s : List ℕ) (w : ℕ) (narrow : w ≤ 8) (line : Line) (placed : InP
   member : l ∈ L
   member = get_or_in L i [] placed.within
 
-  line_wide : length l ≡ w
-  line_wide = sym (ap length placed.cells_are) ∙ cells_length s w (line.number * w)
+  pub line_wide : length (get_or (sorted_lines s w) line.place []) ≡ w
+  line_wide = list_wide s w l (sort_out line_before (lines_of s w) l member)
 
-  module _ (c n parent root : ℕ) (parents : List ℕ) (v : Writing (sorted_lines s w) line.place c n parent root parents) (col : c < w) (cell : ℕ) (ec : cell ≡ get_or s (line.number * w + c) 0) where
+  module _ (c n parent root : ℕ) (parents : List ℕ) (v : Writing (sorted_lines s w) line.place c n parent root parents) (col : c < w) (cell : ℕ) (cell_is : cell ≡ get_or (get_or (sorted_lines s w) line.place []) c 0) where
     wide : c < length l
     wide = omega (arith, line_wide)
-
-    cell_is : cell ≡ get_or l c 0
-    cell_is = ec ∙ sym (ap (λ q. get_or q c 0) (sym placed.cells_are) ∙ get_or_cells s w (line.number * w) c col)
 
     ups : ParentsTo L l (c + 1) (set parents c parent)
     ups = ups_next L l c parent parents (omega (arith, v.long)) v.parent_is v.ups

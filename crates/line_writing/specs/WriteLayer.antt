@@ -1,11 +1,11 @@
 -- What the writing of bodies line by line finds, keeps and leaves. S is the list of the sorted lines; places in it are counted from 0. Assumes nothing: these are definitions.
-use Rattle.std.specs.Prelude.{◌≡◌, cond, List, [], ℕ, ◌+◌, ◌*◌, ◌≤◌, ◌<◌, ltb, length, get_or, take, drop}
+use Rattle.std.specs.Prelude.{◌≡◌, cond, List, [], ℕ, ◌+◌, ◌≤◌, ◌<◌, ltb, length, get_or, take, drop}
 use Rattle.std.proofs.lemmas.List.Edits.{sets}
 use Rattle.image.specs.declared.Body.{Body}
 use Rattle.image.specs.Layout.{flat}
 use Rattle.forest.specs.Nodes.{last_node, rank_of}
 use Rattle.levels.specs.Levelled.{sorted_lines, filled_beginnings, levelled_nodes, levelled_bodies}
-use Rattle.levels.specs.LineLayer.{line_at, common}
+use Rattle.levels.specs.LineLayer.{common}
 use Rattle.levels.specs.PassLayer.{line_beside, pass_at}
 use Rattle.line_writing.specs.declared.Line.{Line}
 
@@ -54,9 +54,7 @@ ParentsTo S l c parents = (d : ℕ) → d < c → get_or parents d 0 ≡ parent_
 -- the line has its place among the sorted lines, and shares so many cells with the one before
 pub record InPlace (s : List ℕ) (w : ℕ) (line : Line) : Type 0 where
   pub within : line.place < length (sorted_lines s w)
-  pub inside : line.number * w + w ≤ length s
   pub few : line.place < 512
-  pub cells_are : line_at s w line.number ≡ get_or (sorted_lines s w) line.place []
   pub shares : line.shared ≡ common (line_beside (sorted_lines s w) line.place) (get_or (sorted_lines s w) line.place [])
 
 -- n nodes are those of the lines before place i; `parents` and `root` are those of the line before it

@@ -1,23 +1,21 @@
 // The bodies of the nodes of a levelled list, written line by line in order of rank, each line beside the one before it.
 #![tactic(auto)]
 
-ghost use Rattle.std.specs.Prelude.{◌≡◌, cond, ℕ, ◌+◌, ◌*◌, ◌<◌, ◌≤◌, eqb, length};
+ghost use Rattle.std.specs.Prelude.{◌≡◌, cond, ℕ, ◌+◌, ◌*◌, ◌<◌, ◌≤◌, eqb, length, drop};
+ghost use Rattle.std.specs.List.{take_while};
 ghost use Rattle.std.proofs.lemmas.List.Edits.{sets};
 ghost use Rattle.image.specs.Layout.{flat};
 ghost use Rattle.levels.specs.Levelled.{sorted_lines, levelled_nodes, levelled_bodies};
-ghost use Rattle.levels.specs.LineLayer.{Ready};
 ghost use Rattle.line_counts.specs.CountLayer.{CountsBefore};
 ghost use Rattle.line_writing.specs.WriteLayer.{NextLine, TreeEnds, EndsAt, end_of, InPlace, Between, Lined};
 
 use image::Body;
-use line_order::line_start;
+use line_order::Sorted;
 use lists::get;
 
-// A line: its number in the slice and its place among the sorted lines, both counted from 0; how many cells it shares with the line before it there, and how many with
-// the next; how many nodes there are up to the next line.
+// A line: its place among the sorted lines, counted from 0; how many cells it shares with the line before it there, and how many with the next; how many nodes there are up to the next line.
 #[derive(Clone, Copy)]
 pub struct Line {
-    pub number: u32,
     pub place: usize,
     pub shared: usize,
     pub next: usize,
@@ -36,14 +34,11 @@ fn next_line(shared: &[u32], from: usize, c: usize) -> usize
     requires { from ≤ length shared.now }
     ensures { NextLine shared.now c from result }
 {
-    let mut j = from;
-    while j < shared.len() {
-        if get(shared, j) as usize <= c {
-            return j;
-        }
-        j += 1;
-    }
-    j
+    from + shared
+        .iter()
+        .skip(from)
+        .take_while(|cells| c < **cells as usize)
+        .count()
 }
 
 // Of the columns of the line at place i, from the shared ones to `to`: how many nodes there are up to the end of the tree of a node that ends there.
@@ -52,17 +47,15 @@ fn fill_ends(shared: &[u32], firsts: &[u32], i: usize, to: usize, ends: &mut [u3
     requires { (i < length shared.now) × (to ≤ 8) × (length ends.old ≡ 8) }
     ensures { TreeEnds shared.now firsts.now i to ends.new }
 {
-    let from = get(shared, i) as usize;
-    let mut c = to;
+    let from = shared[i] as usize;
     let mut j = i + 1;
-    while from < c {
-        c -= 1;
+    for c in (from..to).rev() {
         j = next_line(shared, j, c);
         ends[c] = get(firsts, j);
     }
 }
 
-// The root where there is one, else the node itself.
+// The root where there is one, else the node itself. `walk` has the same for paths; a crate below both for this one line would be no plainer.
 fn root_of(root: u32, rank: u32) -> u32
     ensures { result ≡ cond (eqb root 0) rank root }
 {
@@ -86,29 +79,26 @@ fn end_of(line: Line, ends: &[u32], c: usize) -> u32
 
 // Writes the bodies of the nodes that a line is the first to have; for each of its columns keeps the parent of a node that ends there.
 fn write_columns(
-    lines: &[u32],
-    width: usize,
+    sorted: Sorted,
     line: Line,
     met: Met,
     ends: &[u32],
     parents: &mut [u32],
     index: &mut [u32],
 ) -> Met
-    requires width_bound { (width ≤ 8) × (InPlace lines.now width line) × (line.shared < width) × (Between (sorted_lines lines.now width) line.place met.count met.root parents.old) }
-    requires by_index { (c : ℕ) → line.shared ≤ c → c < width → EndsAt (sorted_lines lines.now width) line.place c (end_of line ends.now c) }
-    requires ends_len { (length ends.now ≡ 8) × (length parents.old ≡ 8) × (length (levelled_nodes (sorted_lines lines.now width)) ≤ 4096) × (8 + 6 * length (levelled_nodes (sorted_lines lines.now width)) ≤ length index.old) }
-    ensures { Lined (sorted_lines lines.now width) line.place met.count result.count result.root parents.new index.old index.new }
+    requires placed { InPlace sorted.lines.cells.now sorted.lines.width line × (line.shared < sorted.lines.width) × Between (sorted_lines sorted.lines.cells.now sorted.lines.width) line.place met.count met.root parents.old }
+    requires by_index { (c : ℕ) → line.shared ≤ c → c < sorted.lines.width → EndsAt (sorted_lines sorted.lines.cells.now sorted.lines.width) line.place c (end_of line ends.now c) }
+    requires room { let n = length (levelled_nodes (sorted_lines sorted.lines.cells.now sorted.lines.width)) in (length ends.now ≡ 8) × (length parents.old ≡ 8) × (n ≤ 4096) × (8 + 6 * n ≤ length index.old) }
+    ensures { Lined (sorted_lines sorted.entry.lines.cells.now sorted.entry.lines.width) line.place met.count result.count result.root parents.new index.old index.new }
 {
-    let at = line_start(line.number, width);
-    let mut c = line.shared;
-    let mut parent = parents[c];
+    let cells = sorted.line(line.place);
+    let mut parent = parents[line.shared];
     let mut root = root_above(parent, met.root);
     let mut n = met.count;
-    while c < width {
+    for c in line.shared..cells.len() {
         parents[c] = parent;
-        let cell = lines[at + c];
+        let cell = cells[c];
         let end = end_of(line, ends, c);
-        c += 1;
         if cell != 0 {
             let rank = n + 1;
             root = root_of(root, rank);
@@ -116,9 +106,9 @@ fn write_columns(
                 numeral: cell,
                 row: line.place as u32 + 1,
                 size: end - n,
-                parent: parent,
-                root: root,
-                level: c as u32,
+                parent,
+                root,
+                level: c as u32 + 1,
                 closing: false,
                 orphan: false,
             };
@@ -127,72 +117,46 @@ fn write_columns(
             n = rank;
         }
     }
-    Met {
-        count: n,
-        root: root,
-    }
+    Met { count: n, root }
 }
 
 // Writes the bodies of the nodes that the line at place i of the order is the first to have.
 fn write_line(
-    lines: &[u32],
-    width: usize,
-    order: &[u32],
-    shared: &[u32],
+    sorted: Sorted,
     firsts: &[u32],
     i: usize,
     met: Met,
     parents: &mut [u32],
     index: &mut [u32],
 ) -> Met
-    requires le_width { (1 ≤ width) × (Ready lines.now width order.now shared.now) × (CountsBefore (sorted_lines lines.now width) firsts.now) × (i < length order.now) × (Between (sorted_lines lines.now width) i met.count met.root parents.old) }
-    requires parents_len { (length parents.old ≡ 8) × (8 + 6 * length (levelled_nodes (sorted_lines lines.now width)) ≤ length index.old) }
-    ensures { Lined (sorted_lines lines.now width) i met.count result.count result.root parents.new index.old index.new }
+    requires between { CountsBefore (sorted_lines sorted.lines.cells.now sorted.lines.width) firsts.now × (i < length sorted.order.now) × Between (sorted_lines sorted.lines.cells.now sorted.lines.width) i met.count met.root parents.old }
+    requires room { (length parents.old ≡ 8) × (8 + 6 * length (levelled_nodes (sorted_lines sorted.lines.cells.now sorted.lines.width)) ≤ length index.old) }
+    ensures { Lined (sorted_lines sorted.entry.lines.cells.now sorted.entry.lines.width) i met.count result.count result.root parents.new index.old index.new }
 {
-    let from = get(shared, i) as usize;
-    if width <= from {
+    let from = sorted.shared[i] as usize;
+    if sorted.lines.width <= from {
         return met;
     }
-    let next = get(shared, i + 1) as usize;
+    let next = get(sorted.shared, i + 1) as usize;
     let mut ends = [0u32; 8];
-    fill_ends(shared, firsts, i, next, &mut ends[..]);
+    fill_ends(sorted.shared, firsts, i, next, &mut ends[..]);
     let line = Line {
-        number: get(order, i),
         place: i,
         shared: from,
-        next: next,
+        next,
         after: get(firsts, i + 1),
     };
-    write_columns(lines, width, line, met, &ends[..], parents, index)
+    write_columns(sorted, line, met, &ends[..], parents, index)
 }
 
 // Writes the bodies of all nodes.
-pub fn write_lines(
-    lines: &[u32],
-    width: usize,
-    order: &[u32],
-    shared: &[u32],
-    firsts: &[u32],
-    index: &mut [u32],
-)
-    requires { (1 ≤ width) × (Ready lines.now width order.now shared.now) × (CountsBefore (sorted_lines lines.now width) firsts.now) × (8 + 6 * length (levelled_nodes (sorted_lines lines.now width)) ≤ length index.old) }
-    ensures { index.new ≡ sets index.old 8 (flat (levelled_bodies (sorted_lines lines.now width))) }
+pub fn write_lines(sorted: Sorted, firsts: &[u32], index: &mut [u32])
+    requires { CountsBefore (sorted_lines sorted.lines.cells.now sorted.lines.width) firsts.now × (8 + 6 * length (levelled_nodes (sorted_lines sorted.lines.cells.now sorted.lines.width)) ≤ length index.old) }
+    ensures { index.new ≡ sets index.old 8 (flat (levelled_bodies (sorted_lines sorted.entry.lines.cells.now sorted.entry.lines.width))) }
 {
     let mut parents = [0u32; 8];
     let mut met = Met { count: 0, root: 0 };
-    let mut i = 0;
-    while i < order.len() {
-        met = write_line(
-            lines,
-            width,
-            order,
-            shared,
-            firsts,
-            i,
-            met,
-            &mut parents[..],
-            index,
-        );
-        i += 1;
+    for i in 0..sorted.order.len() {
+        met = write_line(sorted, firsts, i, met, &mut parents[..], index);
     }
 }

@@ -1,4 +1,1 @@
-pub mod Signed
-pub mod Ends
-pub mod Bytes
 pub mod Turn

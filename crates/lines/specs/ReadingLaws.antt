@@ -2,7 +2,7 @@
 use Prim.Native.Nat.{ℕ, ◌+◌, ◌*◌, ◌-◌, ◌%◌, ◌≤◌, ◌<◌}
 use native.Mathlib.Omega.{arith}
 use Rattle.std.proofs.Common.{mod-eq_of_lt, sym, subst, ◌∙◌, inl, le-ltb, eq-eqb, ne_eqb, eqb-true, ltb-false}
-use Rattle.std.specs.Prelude.{◌≡◌, ◌⊎◌, ◌≢◌, Bool, cond, ◌||◌, ltb, eqb, ℤ, pos, neg_ℤ}
+use Rattle.std.specs.Prelude.{◌≡◌, ◌⊎◌, ◌≢◌, Bool, cond, ◌||◌, ltb, eqb, ℤ, pos, neg_ℤ, Result, Ok, Err}
 use Rattle.std.proofs.Math.Path.{refl, ap}
 use Rattle.std.proofs.Math.Logic.{inr}
 use Rattle.std.proofs.Math.Bool.{true, false}
@@ -12,29 +12,32 @@ use Rattle.lists.specs.Lists.{◌∈◌}
 use Rattle.lists.specs.MemberLaws.{append_right}
 use Rattle.lists.specs.Digits.{Digit, Digits, value_after, value_of}
 use Rattle.lists.specs.DigitLaws.{value_grows}
-use Rattle.lines.specs.Scan.{starting, fresh, grown, signed, digit_of, finish_of, space_of, minus_of, step_of}
+use Rattle.lines.specs.Scan.{no_row, starting, fresh, grown, signed, digit_of, finish_of, space_of, minus_of, going_on, step_of}
+use Rattle.lines.specs.Text.{values}
 use Rattle.lines.specs.Grammar.{Number, Minutes, unsigned, negative, Line}
+use Rattle.lines.specs.declared.BadLine.{BadLine}
 use Rattle.lines.specs.declared.Scan.{Scan}
 use Rattle.lines.specs.declared.Step.{Step}
-use Rattle.lines.specs.declared.Step.TheVariants.{More, Row, Bad}
+use Rattle.lines.specs.declared.Step.TheVariants.{More, Row}
+use Rattle.lines.specs.declared.Values.{Values}
 
-abbrev pub onward : Step → (Scan → Step) → Step
-onward (More q) k = k q
-onward (Row a n o m) k = Row a n o m
-onward Bad k = Bad
+abbrev pub onward : Result Step BadLine → (Scan → Result Values BadLine) → Result Values BadLine
+onward (Ok (More q)) k = k q
+onward (Ok (Row v)) k = Ok v
+onward (Err e) k = Err e
 
 -- the scan of some bytes, after which the line ends
-abbrev pub scanned : Scan → List ℕ → Step
+abbrev pub scanned : Scan → List ℕ → Result Values BadLine
 scanned p [] = finish_of p
 scanned p (b ∷ s) = onward (step_of p b) (λ q. scanned q s)
 
 -- the scan of a whole line, without its newline
-abbrev pub line_of : List ℕ → Step
+abbrev pub line_of : List ℕ → Result Values BadLine
 line_of s = scanned fresh s
 
 -- ---- a well-formed line is read
 
-digit_step : (p : Scan) (b : ℕ) → Digit b → step_of p b ≡ digit_of p (b - 48)
+digit_step : (p : Scan) (b : ℕ) → Digit b → step_of p b ≡ going_on (digit_of p (b - 48))
 unfolding step_of
 digit_step p b d =
     let x : b ≢ 10 = omega arith in
@@ -80,7 +83,7 @@ unfolding step_of
 sign_3 a n o t = refl
 
 -- the minutes and the end of the line
-minutes_read : (a n o : ℕ) (s : List ℕ) (m : ℤ) → Minutes s m → scanned (starting 3 a n o) s ≡ Row a n o m
+minutes_read : (a n o : ℕ) (s : List ℕ) (m : ℤ) → Minutes s m → scanned (starting 3 a n o) s ≡ Ok (values a n o m)
 minutes_read a n o s m (unsigned k f e) =
     ap (scanned (starting 3 a n o)) (sym (append-nil s))
     ∙ run_field (starting 3 a n o) k 2147483647 s [] refl f (omega (arith, f.width))
@@ -91,7 +94,7 @@ minutes_read a n o s m (negative t k x f e) =
     ∙ run_field (signed (starting 3 a n o)) k 2147483648 t [] refl f (omega (arith, f.width))
     ∙ rw (le-ltb 2147483648 k f.width, e)
 
-pub line_row : (s : List ℕ) (a n o : ℕ) (m : ℤ) → Line s a n o m → line_of s ≡ Row a n o m
+pub line_row : (s : List ℕ) (a n o : ℕ) (m : ℤ) → Line s a n o m → line_of s ≡ Ok (values a n o m)
 line_row s a n o m l =
     let z : List ℕ = l.fourth in
     let y : List ℕ = l.third ++ (32 ∷ z) in
@@ -105,35 +108,15 @@ line_row s a n o m l =
     ∙ space_2 a n 0 o z l.orders.width
     ∙ minutes_read a n o z m l.minute
 
--- ---- the end of a line gives a row or none
-
-abbrev pub Settled : Step → Type 0
-Settled (More q) = ⊥
-Settled (Row a n o m) = Unit {0}
-Settled Bad = Unit {0}
-
-settled_tests : (t d g h k : Bool) (a n o : ℕ) (x y : ℤ)
-    → Settled (cond t (cond d (cond g (cond h Bad (Row a n o x)) (cond k Bad (Row a n o y))) Bad) Bad)
-settled_tests false d g h k a n o x y = tt
-settled_tests true false g h k a n o x y = tt
-settled_tests true true true true k a n o x y = tt
-settled_tests true true true false k a n o x y = tt
-settled_tests true true false h true a n o x y = tt
-settled_tests true true false h false a n o x y = tt
-
-pub finish_settled : (p : Scan) → Settled (finish_of p)
-finish_settled p =
-    settled_tests (eqb p.field 3) p.digits p.minus (ltb 2147483648 p.value) (ltb 2147483647 p.value) p.parent p.numeral p.order (neg_ℤ (pos p.value)) (pos p.value)
-
 -- ---- what is read as a row is a well-formed line
 
 -- what a byte can be, and what it then does
 pub data Byte (p : Scan) (b : ℕ) : Type 0 where
   newline : b ≡ 10 → Byte p b
-  space : b ≡ 32 → step_of p b ≡ space_of p → Byte p b
-  minus : b ≡ 45 → step_of p b ≡ minus_of p → Byte p b
-  digit : Digit b → step_of p b ≡ digit_of p (b - 48) → Byte p b
-  other : step_of p b ≡ Bad → Byte p b
+  space : b ≡ 32 → step_of p b ≡ going_on (space_of p) → Byte p b
+  minus : b ≡ 45 → step_of p b ≡ going_on (minus_of p) → Byte p b
+  digit : Digit b → step_of p b ≡ going_on (digit_of p (b - 48)) → Byte p b
+  other : step_of p b ≡ Err no_row → Byte p b
 
 pub byte : (p : Scan) (b : ℕ) → Byte p b
 unfolding step_of
@@ -163,8 +146,8 @@ cons_some : (b : ℕ) (s : List ℕ) → (b ∷ s) ≢ []
 cons_some b s e = let z : ◌≡◌ {A = ℕ} 0 1 = cc in absurd (omega arith)
 
 module _ (a n o : ℕ) (m : ℤ) where
-  no_row : Bad ≡ Row a n o m → ⊥
-  no_row e = let z : ◌≡◌ {A = ℕ} 0 1 = cc in omega arith
+  no_ok : {e : BadLine} → ◌≡◌ {A = Result Values BadLine} (Err e) (Ok (values a n o m)) → ⊥
+  no_ok e = let z : ◌≡◌ {A = ℕ} 0 1 = cc in omega arith
 
   -- one of the first three fields ends at a space, and the rest is read from there
   record Ended (p : Scan) (s : List ℕ) : Type 0 where
@@ -174,78 +157,78 @@ module _ (a n o : ℕ) (m : ℤ) where
     pub digits : Digits field
     pub some : (p.digits ≡ true) ⊎ (field ≢ [])
     pub width : value_after p.value field ≤ 4294967295
-    pub goes : onward (space_of (grown p (value_after p.value field))) (λ q. scanned q rest) ≡ Row a n o m
+    pub goes : onward (going_on (space_of (grown p (value_after p.value field)))) (λ q. scanned q rest) ≡ Ok (values a n o m)
 
   Reads : List ℕ → Type 0
-  Reads s = (q : Scan) → q.field < 3 → q.value ≤ 4294967295 → (10 ∈ s → ⊥) → scanned q s ≡ Row a n o m → Ended q s
+  Reads s = (q : Scan) → q.field < 3 → q.value ≤ 4294967295 → (10 ∈ s → ⊥) → scanned q s ≡ Ok (values a n o m) → Ended q s
 
   module _ (p : Scan) (b : ℕ) (s : List ℕ) (f : p.field < 3) (w : p.value ≤ 4294967295) (x : 10 ∈ (b ∷ s) → ⊥) where
-    field_space : b ≡ 32 → (t : Bool) → p.digits ≡ t → onward (space_of p) (λ q. scanned q s) ≡ Row a n o m → Ended p (b ∷ s)
+    field_space : b ≡ 32 → (t : Bool) → p.digits ≡ t → onward (going_on (space_of p)) (λ q. scanned q s) ≡ Ok (values a n o m) → Ended p (b ∷ s)
     field_space h true d r =
         record { field = []; rest = s; text = ap (λ (k : ℕ). k ∷ s) h; digits = tt; some = inl d; width = w; goes = rw d at r }
-    field_space h false d r = absurd (no_row (rw d at r))
+    field_space h false d r = absurd (no_ok (rw d at r))
 
     field_digit : Reads s → Digit b → (t : Bool) → ltb 4294967295 (p.value * 10 + (b - 48)) ≡ t
-        → onward (digit_of p (b - 48)) (λ q. scanned q s) ≡ Row a n o m → Ended p (b ∷ s)
+        → onward (going_on (digit_of p (b - 48))) (λ q. scanned q s) ≡ Ok (values a n o m) → Ended p (b ∷ s)
     unfolding Reads
-    field_digit rec d true h r = absurd (no_row (rw h at r))
+    field_digit rec d true h r = absurd (no_ok (rw h at r))
     field_digit rec d false h r =
         let i = rec (grown p (p.value * 10 + (b - 48))) f (ltb-false _ _ h) (λ k. x (inr k)) (rw h at r) in
         record { field = b ∷ i.field; rest = i.rest; text = ap (λ (l : List ℕ). b ∷ l) i.text; digits = (d, i.digits); some = inr (cons_some b i.field); width = i.width; goes = i.goes }
 
-    field_byte : Reads s → scanned p (b ∷ s) ≡ Row a n o m → Byte p b → Ended p (b ∷ s)
+    field_byte : Reads s → scanned p (b ∷ s) ≡ Ok (values a n o m) → Byte p b → Ended p (b ∷ s)
     field_byte rec e (newline h) = absurd (x (inl (sym h)))
     field_byte rec e (space h k) = field_space h p.digits refl (rw k at e)
     field_byte rec e (minus h k) =
         let g : p.field ≢ 3 = omega arith in
-        absurd (no_row (rw (k, ne_eqb p.field 3 g) at e))
+        absurd (no_ok (rw (k, ne_eqb p.field 3 g) at e))
     field_byte rec e (digit d k) = field_digit rec d (ltb 4294967295 (p.value * 10 + (b - 48))) refl (rw k at e)
-    field_byte rec e (other k) = absurd (no_row (rw k at e))
+    field_byte rec e (other k) = absurd (no_ok (rw k at e))
 
   field_read : (s : List ℕ) → Reads s
   unfolding Reads
   field_read [] p f w x e =
       let g : p.field ≢ 3 = omega arith in
-      absurd (no_row (rw (ne_eqb p.field 3 g) at e))
+      absurd (no_ok (rw (ne_eqb p.field 3 g) at e))
   field_read (b ∷ s) p f w x e = field_byte p b s f w x (field_read s) e (byte p b)
 
   -- the last field, of which a digit or the minus sign has been read, is digits to the end of the line
   record Last (p : Scan) (s : List ℕ) : Type 0 where
     pub digits : Digits s
     pub some : (p.digits ≡ true) ⊎ (s ≢ [])
-    pub goes : finish_of (grown p (value_after p.value s)) ≡ Row a n o m
+    pub goes : finish_of (grown p (value_after p.value s)) ≡ Ok (values a n o m)
 
   Closes : List ℕ → Type 0
-  Closes s = (q : Scan) → q.field ≡ 3 → q.digits || q.minus ≡ true → (10 ∈ s → ⊥) → scanned q s ≡ Row a n o m → Last q s
+  Closes s = (q : Scan) → q.field ≡ 3 → q.digits || q.minus ≡ true → (10 ∈ s → ⊥) → scanned q s ≡ Ok (values a n o m) → Last q s
 
-  last_end : (p : Scan) → p.field ≡ 3 → (t : Bool) → p.digits ≡ t → finish_of p ≡ Row a n o m → Last p []
+  last_end : (p : Scan) → p.field ≡ 3 → (t : Bool) → p.digits ≡ t → finish_of p ≡ Ok (values a n o m) → Last p []
   last_end p f true d e = record { digits = tt; some = inl d; goes = rw d at e }
-  last_end p f false d e = absurd (no_row (rw (eq-eqb _ _ f, d) at e))
+  last_end p f false d e = absurd (no_ok (rw (eq-eqb _ _ f, d) at e))
 
   module _ (p : Scan) (b : ℕ) (s : List ℕ) (f : p.field ≡ 3) (y : p.digits || p.minus ≡ true) (x : 10 ∈ (b ∷ s) → ⊥) where
-    last_minus : (t u : Bool) → p.digits ≡ t → p.minus ≡ u → t || u ≡ true → onward (minus_of p) (λ q. scanned q s) ≡ Row a n o m → ⊥
-    last_minus true u d h g e = no_row (rw (eq-eqb _ _ f, d) at e)
-    last_minus false true d h g e = no_row (rw (eq-eqb _ _ f, d, h) at e)
+    last_minus : (t u : Bool) → p.digits ≡ t → p.minus ≡ u → t || u ≡ true → onward (going_on (minus_of p)) (λ q. scanned q s) ≡ Ok (values a n o m) → ⊥
+    last_minus true u d h g e = no_ok (rw (eq-eqb _ _ f, d) at e)
+    last_minus false true d h g e = no_ok (rw (eq-eqb _ _ f, d, h) at e)
     last_minus false false d h g e = let z : ◌≡◌ {A = ℕ} 0 1 = cc in omega arith
 
-    last_space : (t : Bool) → p.digits ≡ t → onward (space_of p) (λ q. scanned q s) ≡ Row a n o m → ⊥
-    last_space true d e = no_row (rw (d, f) at e)
-    last_space false d e = no_row (rw d at e)
+    last_space : (t : Bool) → p.digits ≡ t → onward (going_on (space_of p)) (λ q. scanned q s) ≡ Ok (values a n o m) → ⊥
+    last_space true d e = no_ok (rw (d, f) at e)
+    last_space false d e = no_ok (rw d at e)
 
     last_digit : Closes s → Digit b → (t : Bool) → ltb 4294967295 (p.value * 10 + (b - 48)) ≡ t
-        → onward (digit_of p (b - 48)) (λ q. scanned q s) ≡ Row a n o m → Last p (b ∷ s)
+        → onward (going_on (digit_of p (b - 48))) (λ q. scanned q s) ≡ Ok (values a n o m) → Last p (b ∷ s)
     unfolding Closes
-    last_digit rec d true h r = absurd (no_row (rw h at r))
+    last_digit rec d true h r = absurd (no_ok (rw h at r))
     last_digit rec d false h r =
         let i = rec (grown p (p.value * 10 + (b - 48))) f refl (λ k. x (inr k)) (rw h at r) in
         record { digits = (d, i.digits); some = inr (cons_some b s); goes = i.goes }
 
-    last_byte : Closes s → scanned p (b ∷ s) ≡ Row a n o m → Byte p b → Last p (b ∷ s)
+    last_byte : Closes s → scanned p (b ∷ s) ≡ Ok (values a n o m) → Byte p b → Last p (b ∷ s)
     last_byte rec e (newline h) = absurd (x (inl (sym h)))
     last_byte rec e (space h k) = absurd (last_space p.digits refl (rw k at e))
     last_byte rec e (minus h k) = absurd (last_minus p.digits p.minus refl refl y (rw k at e))
     last_byte rec e (digit d k) = last_digit rec d (ltb 4294967295 (p.value * 10 + (b - 48))) refl (rw k at e)
-    last_byte rec e (other k) = absurd (no_row (rw k at e))
+    last_byte rec e (other k) = absurd (no_ok (rw k at e))
 
   last_read : (s : List ℕ) → Closes s
   unfolding Closes
@@ -261,9 +244,17 @@ module _ (a n o : ℕ) (m : ℤ) where
     pub order : o' ≡ o
     pub minutes : m' ≡ m
 
-  ends : (a' n' o' v highest : ℕ) (m' : ℤ) (t : Bool) → ltb highest v ≡ t → cond t Bad (Row a' n' o' m') ≡ Row a n o m → Ends a' n' o' m' v highest
-  ends a' n' o' v highest m' true h e = absurd (no_row e)
-  ends a' n' o' v highest m' false h e = record { width = ltb-false highest v h; parent = cc; numeral = cc; order = cc; minutes = cc }
+  ends : (a' n' o' v highest : ℕ) (m' : ℤ) (t : Bool) → ltb highest v ≡ t → cond t (Err no_row) (Ok (values a' n' o' m')) ≡ Ok (values a n o m) → Ends a' n' o' m' v highest
+  ends a' n' o' v highest m' true h e = absurd (no_ok e)
+  ends a' n' o' v highest m' false h e =
+      let r : values a' n' o' m' ≡ values a n o m = cc in
+      record {
+        width = ltb-false highest v h;
+        parent = ap (λ (x : Values). x.parent) r;
+        numeral = ap (λ (x : Values). x.numeral) r;
+        order = ap (λ (x : Values). x.order) r;
+        minutes = ap (λ (x : Values). x.minutes) r;
+      }
 
   record Closed (a' n' o' : ℕ) (s : List ℕ) : Type 0 where
     pub minute : Minutes s m
@@ -276,7 +267,7 @@ module _ (a n o : ℕ) (m : ℤ) where
   some_of s (inr h) = h
 
   module _ (a' n' o' : ℕ) (b : ℕ) (s : List ℕ) (x : 10 ∈ (b ∷ s) → ⊥) where
-    minutes_sign : b ≡ 45 → scanned (signed (starting 3 a' n' o')) s ≡ Row a n o m → Closed a' n' o' (b ∷ s)
+    minutes_sign : b ≡ 45 → scanned (signed (starting 3 a' n' o')) s ≡ Ok (values a n o m) → Closed a' n' o' (b ∷ s)
     unfolding Closes
     minutes_sign h e =
         let l = last_read s (signed (starting 3 a' n' o')) refl refl (λ k. x (inr k)) e in
@@ -290,9 +281,9 @@ module _ (a n o : ℕ) (m : ℤ) where
         }
 
     minutes_digit : Digit b → (t : Bool) → ltb 4294967295 (0 * 10 + (b - 48)) ≡ t
-        → onward (digit_of (starting 3 a' n' o') (b - 48)) (λ q. scanned q s) ≡ Row a n o m → Closed a' n' o' (b ∷ s)
+        → onward (going_on (digit_of (starting 3 a' n' o') (b - 48))) (λ q. scanned q s) ≡ Ok (values a n o m) → Closed a' n' o' (b ∷ s)
     unfolding Closes
-    minutes_digit d true h e = absurd (no_row (rw h at e))
+    minutes_digit d true h e = absurd (no_ok (rw h at e))
     minutes_digit d false h e =
         let l = last_read s (grown (starting 3 a' n' o') (0 * 10 + (b - 48))) refl refl (λ k. x (inr k)) (rw h at e) in
         let v : ℕ = value_of (b ∷ s) in
@@ -304,15 +295,15 @@ module _ (a n o : ℕ) (m : ℤ) where
           order = r.order;
         }
 
-    minutes_byte : scanned (starting 3 a' n' o') (b ∷ s) ≡ Row a n o m → Byte (starting 3 a' n' o') b → Closed a' n' o' (b ∷ s)
+    minutes_byte : scanned (starting 3 a' n' o') (b ∷ s) ≡ Ok (values a n o m) → Byte (starting 3 a' n' o') b → Closed a' n' o' (b ∷ s)
     minutes_byte e (newline h) = absurd (x (inl (sym h)))
-    minutes_byte e (space h k) = absurd (no_row (rw k at e))
+    minutes_byte e (space h k) = absurd (no_ok (rw k at e))
     minutes_byte e (minus h k) = minutes_sign h (rw k at e)
     minutes_byte e (digit d k) = minutes_digit d (ltb 4294967295 (0 * 10 + (b - 48))) refl (rw k at e)
-    minutes_byte e (other k) = absurd (no_row (rw k at e))
+    minutes_byte e (other k) = absurd (no_ok (rw k at e))
 
-  minutes_line : (a' n' o' : ℕ) (s : List ℕ) → (10 ∈ s → ⊥) → scanned (starting 3 a' n' o') s ≡ Row a n o m → Closed a' n' o' s
-  minutes_line a' n' o' [] x e = absurd (no_row e)
+  minutes_line : (a' n' o' : ℕ) (s : List ℕ) → (10 ∈ s → ⊥) → scanned (starting 3 a' n' o') s ≡ Ok (values a n o m) → Closed a' n' o' s
+  minutes_line a' n' o' [] x e = absurd (no_ok e)
   minutes_line a' n' o' (b ∷ s) x e = minutes_byte a' n' o' b s x e (byte (starting 3 a' n' o') b)
 
   -- ---- the whole line
@@ -328,7 +319,7 @@ module _ (a n o : ℕ) (m : ℤ) where
   fields_joined : (s f g h x y z : List ℕ) → s ≡ f ++ (32 ∷ x) → x ≡ g ++ (32 ∷ y) → y ≡ h ++ (32 ∷ z) → s ≡ f ++ (32 ∷ (g ++ (32 ∷ (h ++ (32 ∷ z)))))
   fields_joined s f g h x y z p q r = cc
 
-  pub row_line : (s : List ℕ) → (10 ∈ s → ⊥) → line_of s ≡ Row a n o m → Line s a n o m
+  pub row_line : (s : List ℕ) → (10 ∈ s → ⊥) → line_of s ≡ Ok (values a n o m) → Line s a n o m
   unfolding Reads
   row_line s x e =
       let e₀ = field_read s fresh (omega arith) (omega arith) x e in
@@ -353,5 +344,5 @@ module _ (a n o : ℕ) (m : ℤ) where
         minute = e₃.minute;
       }
 
-pub bad_line_lem : (s : List ℕ) → line_of s ≡ Bad → (a n o : ℕ) (m : ℤ) → Line s a n o m → ⊥
-bad_line_lem s e a n o m l = no_row a n o m (sym e ∙ line_row s a n o m l)
+pub bad_line_lem : (s : List ℕ) (w : BadLine) → line_of s ≡ Err w → (a n o : ℕ) (m : ℤ) → Line s a n o m → ⊥
+bad_line_lem s w e a n o m l = no_ok a n o m (sym e ∙ line_row s a n o m l)

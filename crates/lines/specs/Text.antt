@@ -1,6 +1,7 @@
 -- A text as lines, and what its lines say in order, as definitions. Assumes nothing.
 use Rattle.std.specs.Prelude.{ℕ, ◌+◌, List, [], ◌∷◌, ◌++◌, cond, eqb, ℤ}
 use Rattle.lines.specs.Grammar.{Line}
+use Rattle.lines.specs.declared.Values.{Values}
 
 -- ---- the lines of a text: they end at newlines, "the last newline may be missing"
 
@@ -18,12 +19,6 @@ abbrev pub lines_of : List ℕ → List (List ℕ)
 lines_of s = lines_after [] s
 
 -- ---- what the lines say: their rows in order, up to the first line that is none
-
-pub record Values : Type 0 where
-  pub parent : ℕ
-  pub numeral : ℕ
-  pub order : ℕ
-  pub minutes : ℤ
 
 abbrev pub values : ℕ → ℕ → ℕ → ℤ → Values
 values a n o m = record { parent = a; numeral = n; order = o; minutes = m }

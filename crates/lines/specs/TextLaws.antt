@@ -1,5 +1,5 @@
 -- A scan over a text takes what the text's lines say. Assumes nothing.
-use Rattle.std.specs.Prelude.{ℕ, ◌+◌, ◌*◌, ◌-◌, ◌%◌, ◌<◌, ◌≤◌, ◌≡◌, refl, ◌≢◌, Bool, true, false, cond, ltb, eqb, ℤ, length, drop}
+use Rattle.std.specs.Prelude.{ℕ, ◌+◌, ◌*◌, ◌-◌, ◌%◌, ◌<◌, ◌≤◌, ◌≡◌, refl, ◌≢◌, Bool, true, false, cond, ltb, eqb, ℤ, length, drop, Result, Ok, Err}
 use Rattle.std.proofs.Common.{arith, sym, ap₂, subst, ◌∙◌, inl, inr, ⊎_elim, drop-drop, eq-eqb, ne_eqb, eqb-true}
 use Rattle.std.proofs.Math.Path.{ap}
 use Rattle.std.proofs.Math.Bool.{and-false}
@@ -8,12 +8,14 @@ use Rattle.std.proofs.lemmas.Bool.{eqb-false}
 use Rattle.lists.specs.Lists.{◌∈◌}
 use Rattle.lists.specs.MemberLaws.{append_out}
 use Rattle.lines.specs.Grammar.{Line}
-use Rattle.lines.specs.Scan.{blank_of, starting, grown, signed, fresh, finish_of, step_of, next_of, carry}
-use Rattle.lines.specs.ReadingLaws.{onward, scanned, line_of, Byte, newline, space, minus, digit, other, byte, line_row, row_line, bad_line_lem, Settled, finish_settled}
-use Rattle.lines.specs.Text.{last_line, lines_after, lines_of, Values, values, Ending, whole, bad_line, Say, none, row, bad}
+use Rattle.lines.specs.Scan.{no_row, blank_of, starting, grown, signed, fresh, finish_of, going_on, ended, step_of, next_of, carry}
+use Rattle.lines.specs.ReadingLaws.{onward, scanned, line_of, Byte, newline, space, minus, digit, other, byte, line_row, row_line, bad_line_lem}
+use Rattle.lines.specs.Text.{last_line, lines_after, lines_of, values, Ending, whole, bad_line, Say, none, row, bad}
+use Rattle.lines.specs.declared.BadLine.{BadLine}
 use Rattle.lines.specs.declared.Scan.{Scan}
 use Rattle.lines.specs.declared.Step.{Step}
-use Rattle.lines.specs.declared.Step.TheVariants.{More, Row, Bad}
+use Rattle.lines.specs.declared.Step.TheVariants.{More, Row}
+use Rattle.lines.specs.declared.Values.{Values}
 use Rattle.lines.specs.declared.Found.{Found}
 use Rattle.lines.specs.declared.Found.TheVariants as found
 
@@ -30,10 +32,10 @@ pub record Taken : Type 0 where
 abbrev pub put : Values → Taken → Taken
 put v t = record { rows = v ∷ t.rows; rest = t.rest }
 
-abbrev pub on_byte : Step → (Scan → Taken) → Taken
-on_byte (More q) k = k q
-on_byte (Row a n o m) k = put (values a n o m) (k fresh)
-on_byte Bad k = record { rows = []; rest = broken }
+abbrev pub on_byte : Result Step BadLine → (Scan → Taken) → Taken
+on_byte (Ok (More q)) k = k q
+on_byte (Ok (Row v)) k = put v (k fresh)
+on_byte (Err e) k = record { rows = []; rest = broken }
 
 abbrev pub taken_of : Scan → List ℕ → Taken
 taken_of p [] = record { rows = []; rest = within p }
@@ -46,10 +48,9 @@ pub record Read : Type 0 where
   pub ending : Ending
 
 -- the input ends, and with it the line that goes on, if it has a byte
-abbrev pub at_end : Step → ℕ → Read
-at_end (Row a n o m) k = record { rows = values a n o m ∷ []; ending = whole }
-at_end (More q) k = record { rows = []; ending = whole }
-at_end Bad k = record { rows = []; ending = bad_line k }
+abbrev pub at_end : Result Values BadLine → ℕ → Read
+at_end (Ok v) k = record { rows = v ∷ []; ending = whole }
+at_end (Err e) k = record { rows = []; ending = bad_line k }
 
 abbrev pub rest_of : Rest → ℕ → Read
 rest_of (within q) k = cond (blank_of q) (record { rows = []; ending = whole }) (at_end (finish_of q) k)
@@ -65,10 +66,10 @@ read_of t k = ended_of t.rows t.rest k
 
 -- ---- `next` over a chunk, row by row
 
-abbrev pub on_found : Found → (ℕ → Taken) → Taken
-on_found (found.Row a n o m j) k = put (values a n o m) (k j)
-on_found found.Bad k = record { rows = []; rest = broken }
-on_found (found.More q) k = record { rows = []; rest = within q }
+abbrev pub on_found : Result Found BadLine → (ℕ → Taken) → Taken
+on_found (Ok (found.Row v j)) k = put v (k j)
+on_found (Err e) k = record { rows = []; rest = broken }
+on_found (Ok (found.More q)) k = record { rows = []; rest = within q }
 
 drop_tail : (s : List ℕ) (i b : ℕ) (u : List ℕ) → b ∷ u ≡ drop i s → u ≡ drop (i + 1) s
 drop_tail s i b u e = ap (drop 1) e ∙ drop-drop 1 i s
@@ -79,60 +80,60 @@ unfolding next_of
 next_part s [] i p e = refl
 next_part s (b ∷ u) i p e = go (λ q. next_part s u (i + 1) q (drop_tail s i b u e)) (step_of p b)
   where
-    go : ((q : Scan) → taken_of q u ≡ on_found (next_of q (i + 1) u) (λ j. taken_of fresh (drop j s))) → (r : Step)
+    go : ((q : Scan) → taken_of q u ≡ on_found (next_of q (i + 1) u) (λ j. taken_of fresh (drop j s))) → (r : Result Step BadLine)
         → on_byte r (λ q. taken_of q u) ≡ on_found (carry r (λ q. next_of q (i + 1) u) (i + 1)) (λ j. taken_of fresh (drop j s))
-    go rec (More q) = rec q
-    go rec (Row a n o m) = ap (λ (l : List ℕ). put (values a n o m) (taken_of fresh l)) (drop_tail s i b u e)
-    go rec Bad = refl
+    go rec (Ok (More q)) = rec q
+    go rec (Ok (Row v)) = ap (λ (l : List ℕ). put v (taken_of fresh l)) (drop_tail s i b u e)
+    go rec (Err e) = refl
 
 pub next_taken : (s : List ℕ) (i : ℕ) (p : Scan) → taken_of p (drop i s) ≡ on_found (next_of p i (drop i s)) (λ j. taken_of fresh (drop j s))
 next_taken s i p = next_part s (drop i s) i p refl
 
 -- a row that is found ends after the place where the search began, and in the chunk
-next_place : (u : List ℕ) (p : Scan) (i a n o j : ℕ) (m : ℤ) → next_of p i u ≡ found.Row a n o m j → (i < j) × (j ≤ i + length u)
+next_place : (u : List ℕ) (p : Scan) (i j : ℕ) (v : Values) → next_of p i u ≡ Ok (found.Row v j) → (i < j) × (j ≤ i + length u)
 unfolding next_of
-next_place [] p i a n o j m e = let z : ◌≡◌ {A = ℕ} 0 1 = cc in absurd (omega arith)
-next_place (b ∷ u) p i a n o j m e = go (λ q. next_place u q (i + 1) a n o j m) (step_of p b) e
+next_place [] p i j v e = let z : ◌≡◌ {A = ℕ} 0 1 = cc in absurd (omega arith)
+next_place (b ∷ u) p i j v e = go (λ q. next_place u q (i + 1) j v) (step_of p b) e
   where
-    go : ((q : Scan) → next_of q (i + 1) u ≡ found.Row a n o m j → (i + 1 < j) × (j ≤ i + 1 + length u)) → (r : Step)
-        → carry r (λ q. next_of q (i + 1) u) (i + 1) ≡ found.Row a n o m j → (i < j) × (j ≤ i + length (b ∷ u))
-    go rec (More q) h = (omega (arith, (rec q h).0), omega (arith, (rec q h).1))
-    go rec (Row a' n' o' m') h = let z : i + 1 ≡ j = cc in (omega arith, omega arith)
-    go rec Bad h = let z : ◌≡◌ {A = ℕ} 0 1 = cc in absurd (omega arith)
+    go : ((q : Scan) → next_of q (i + 1) u ≡ Ok (found.Row v j) → (i + 1 < j) × (j ≤ i + 1 + length u)) → (r : Result Step BadLine)
+        → carry r (λ q. next_of q (i + 1) u) (i + 1) ≡ Ok (found.Row v j) → (i < j) × (j ≤ i + length (b ∷ u))
+    go rec (Ok (More q)) h = (omega (arith, (rec q h).0), omega (arith, (rec q h).1))
+    go rec (Ok (Row v')) h = let z : i + 1 ≡ j = cc in (omega arith, omega arith)
+    go rec (Err w) h = let z : ◌≡◌ {A = ℕ} 0 1 = cc in absurd (omega arith)
 
-pub next_later : (u : List ℕ) (p : Scan) (i a n o j : ℕ) (m : ℤ) → next_of p i u ≡ found.Row a n o m j → i < j
-next_later u p i a n o j m e = (next_place u p i a n o j m e).0
+pub next_later : (u : List ℕ) (p : Scan) (i j : ℕ) (v : Values) → next_of p i u ≡ Ok (found.Row v j) → i < j
+next_later u p i j v e = (next_place u p i j v e).0
 
 -- ---- the whole text
 
 abbrev Said : ℕ → List (List ℕ) → Read → Type 0
 Said k ls r = Say k ls r.rows r.ending
 
-newline_step : (p : Scan) (b : ℕ) → b ≡ 10 → step_of p b ≡ finish_of p
+newline_step : (p : Scan) (b : ℕ) → b ≡ 10 → step_of p b ≡ ended (finish_of p)
 unfolding step_of
 newline_step p b e = rw (eq-eqb b 10 e)
 
 -- no byte but a newline ends a line, and after one the line has a byte
-abbrev Quiet : Step → Type 0
-Quiet (More q) = blank_of q ≡ false
-Quiet (Row a n o m) = ⊥
-Quiet Bad = Unit {0}
+abbrev Quiet : Result Step BadLine → Type 0
+Quiet (Ok (More q)) = blank_of q ≡ false
+Quiet (Ok (Row v)) = ⊥
+Quiet (Err e) = Unit {0}
 
 quiet_space : (d f g h : Bool) (a n o v : ℕ)
-    → Quiet (cond d (cond f (More (starting 1 v n o)) (cond g (More (starting 2 a v o)) (cond h (More (starting 3 a n v)) Bad))) Bad)
+    → Quiet (going_on (cond d (cond f (Ok (starting 1 v n o)) (cond g (Ok (starting 2 a v o)) (cond h (Ok (starting 3 a n v)) (Err no_row)))) (Err no_row)))
 quiet_space true true g h a n o v = refl
 quiet_space true false true h a n o v = refl
 quiet_space true false false true a n o v = refl
 quiet_space true false false false a n o v = tt
 quiet_space false f g h a n o v = tt
 
-quiet_minus : (f d g : Bool) (p : Scan) → Quiet (cond f (cond d Bad (cond g Bad (More (signed p)))) Bad)
+quiet_minus : (f d g : Bool) (p : Scan) → Quiet (going_on (cond f (cond d (Err no_row) (cond g (Err no_row) (Ok (signed p)))) (Err no_row)))
 quiet_minus true true g p = tt
 quiet_minus true false true p = tt
 quiet_minus true false false p = refl
 quiet_minus false d g p = tt
 
-quiet_digit : (t : Bool) (p : Scan) (v : ℕ) → Quiet (cond t Bad (More (grown p v)))
+quiet_digit : (t : Bool) (p : Scan) (v : ℕ) → Quiet (going_on (cond t (Err no_row) (Ok (grown p v))))
 quiet_digit true p v = tt
 quiet_digit false p v = and-false (eqb p.field 0)
 
@@ -166,57 +167,58 @@ start = record { clean = λ m. absurd m; begun = refl; follows = λ t. refl }
 clean_snoc : (l : List ℕ) (b : ℕ) → (10 ∈ l → ⊥) → b ≢ 10 → 10 ∈ (l ++ (b ∷ [])) → ⊥
 clean_snoc l b c x m = ⊎_elim c (⊎_elim (λ e. x (sym e)) (λ k. absurd k)) (append_out l (b ∷ []) 10 m)
 
-more : (l : List ℕ) (p q : Scan) (b : ℕ) → After l p → b ≢ 10 → step_of p b ≡ More q → After (l ++ (b ∷ [])) q
+more : (l : List ℕ) (p q : Scan) (b : ℕ) → After l p → b ≢ 10 → step_of p b ≡ Ok (More q) → After (l ++ (b ∷ [])) q
 more l p q b f x e = record {
   clean = clean_snoc l b f.clean x;
   begun = blank_snoc l b q (subst Quiet e (quiet p b x));
-  follows = λ t. ap line_of (append_assoc l (b ∷ []) t) ∙ f.follows (b ∷ t) ∙ ap (λ (r : Step). onward r (λ q. scanned q t)) e;
+  follows = λ t. ap line_of (append_assoc l (b ∷ []) t) ∙ f.follows (b ∷ t) ∙ ap (λ (r : Result Step BadLine). onward r (λ q. scanned q t)) e;
 }
 
 line_is : (l : List ℕ) (p : Scan) → After l p → line_of l ≡ finish_of p
 line_is l p f = ap line_of (sym (append-nil l)) ∙ f.follows []
 
-last_said : (k : ℕ) (l : List ℕ) → (10 ∈ l → ⊥) → (r : Step) → line_of l ≡ r → Settled r → Said k (l ∷ []) (at_end r k)
-last_said k l c (More q) e t = absurd t
-last_said k l c (Row a n o m) e t = row (row_line a n o m l c e) none
-last_said k l c Bad e t = bad (bad_line_lem l e)
+last_said : (k : ℕ) (l : List ℕ) → (10 ∈ l → ⊥) → (r : Result Values BadLine) → line_of l ≡ r → Said k (l ∷ []) (at_end r k)
+last_said k l c (Ok v) e = row (row_line v.parent v.numeral v.order v.minutes l c e) none
+last_said k l c (Err w) e = bad (bad_line_lem l w e)
 
 end_said : (k : ℕ) (l : List ℕ) (p : Scan) → After l p → Said k (last_line l) (rest_of (within p) k)
 end_said k [] p f = rw f.begun none
-end_said k (b ∷ l) p f = rw f.begun (last_said k (b ∷ l) f.clean (finish_of p) (line_is (b ∷ l) p f) (finish_settled p))
+end_said k (b ∷ l) p f = rw f.begun (last_said k (b ∷ l) f.clean (finish_of p) (line_is (b ∷ l) p f))
 
 -- no byte mends a line that is bad already
-dead : (s : List ℕ) (k b : ℕ) (l : List ℕ) → ((t : List ℕ) → line_of (b ∷ (l ++ t)) ≡ Bad) → Say k (lines_after (b ∷ l) s) [] (bad_line k)
-dead [] k b l h = bad (bad_line_lem (b ∷ l) (ap (λ (x : List ℕ). line_of (b ∷ x)) (sym (append-nil l)) ∙ h []))
-dead (c ∷ s) k b l h = go (dead s k b (l ++ (c ∷ [])) (λ t. ap (λ (x : List ℕ). line_of (b ∷ x)) (append_assoc l (c ∷ []) t) ∙ h (c ∷ t))) (eqb c 10)
+dead : (s : List ℕ) (k b : ℕ) (l : List ℕ) (w : BadLine) → ((t : List ℕ) → line_of (b ∷ (l ++ t)) ≡ Err w) → Say k (lines_after (b ∷ l) s) [] (bad_line k)
+dead [] k b l w h = bad (bad_line_lem (b ∷ l) w (ap (λ (x : List ℕ). line_of (b ∷ x)) (sym (append-nil l)) ∙ h []))
+dead (c ∷ s) k b l w h = go (dead s k b (l ++ (c ∷ [])) w (λ t. ap (λ (x : List ℕ). line_of (b ∷ x)) (append_assoc l (c ∷ []) t) ∙ h (c ∷ t))) (eqb c 10)
   where
     go : Say k (lines_after (b ∷ (l ++ (c ∷ []))) s) [] (bad_line k) → (t : Bool)
         → Say k (cond t ((b ∷ l) ∷ lines_after [] s) (lines_after (b ∷ (l ++ (c ∷ []))) s)) [] (bad_line k)
-    go rec true = bad (bad_line_lem (b ∷ l) (ap (λ (x : List ℕ). line_of (b ∷ x)) (sym (append-nil l)) ∙ h []))
+    go rec true = bad (bad_line_lem (b ∷ l) w (ap (λ (x : List ℕ). line_of (b ∷ x)) (sym (append-nil l)) ∙ h []))
     go rec false = rec
 
-dead_snoc : (s : List ℕ) (k b : ℕ) (l : List ℕ) → ((t : List ℕ) → line_of (l ++ (b ∷ t)) ≡ Bad) → Say k (lines_after (l ++ (b ∷ [])) s) [] (bad_line k)
-dead_snoc s k b [] h = dead s k b [] h
-dead_snoc s k b (c ∷ l) h = dead s k c (l ++ (b ∷ [])) (λ t. ap (λ (x : List ℕ). line_of (c ∷ x)) (append_assoc l (b ∷ []) t) ∙ h t)
+dead_snoc : (s : List ℕ) (k b : ℕ) (l : List ℕ) (w : BadLine) → ((t : List ℕ) → line_of (l ++ (b ∷ t)) ≡ Err w) → Say k (lines_after (l ++ (b ∷ [])) s) [] (bad_line k)
+dead_snoc s k b [] w h = dead s k b [] w h
+dead_snoc s k b (c ∷ l) w h = dead s k c (l ++ (b ∷ [])) w (λ t. ap (λ (x : List ℕ). line_of (c ∷ x)) (append_assoc l (b ∷ []) t) ∙ h t)
 
 Text : List ℕ → Type 0
 Text s = (k : ℕ) (l : List ℕ) (p : Scan) → After l p → Said k (lines_after l s) (read_of (taken_of p s) k)
 
 module _ (b : ℕ) (s : List ℕ) (rec : Text s) (k : ℕ) (l : List ℕ) (p : Scan) (f : After l p) where
-  line_ended : (r : Step) → finish_of p ≡ r → Settled r → Said k (l ∷ lines_after [] s) (read_of (on_byte r (λ q. taken_of q s)) k)
+  line_ended : (r : Result Values BadLine) → finish_of p ≡ r → Said k (l ∷ lines_after [] s) (read_of (on_byte (ended r) (λ q. taken_of q s)) k)
   unfolding Text
-  line_ended (More q) e t = absurd t
-  line_ended (Row a n o m) e t = row (row_line a n o m l f.clean (line_is l p f ∙ e)) (rec (k + 1) [] fresh start)
-  line_ended Bad e t = bad (bad_line_lem l (line_is l p f ∙ e))
+  line_ended (Ok v) e = row (row_line v.parent v.numeral v.order v.minutes l f.clean (line_is l p f ∙ e)) (rec (k + 1) [] fresh start)
+  line_ended (Err w) e = bad (bad_line_lem l w (line_is l p f ∙ e))
 
-  line_goes_on : b ≢ 10 → (r : Step) → step_of p b ≡ r → Quiet r → Said k (lines_after (l ++ (b ∷ [])) s) (read_of (on_byte r (λ q. taken_of q s)) k)
+  line_goes_on : b ≢ 10 → (r : Result Step BadLine) → step_of p b ≡ r → Quiet r
+      → Said k (lines_after (l ++ (b ∷ [])) s) (read_of (on_byte r (λ q. taken_of q s)) k)
   unfolding Text
-  line_goes_on x (More q) e t = rec k (l ++ (b ∷ [])) q (more l p q b f x e)
-  line_goes_on x (Row a n o m) e t = absurd t
-  line_goes_on x Bad e t = dead_snoc s k b l (λ u. f.follows (b ∷ u) ∙ ap (λ (r : Step). onward r (λ q. scanned q u)) e)
+  line_goes_on x (Ok (More q)) e t = rec k (l ++ (b ∷ [])) q (more l p q b f x e)
+  line_goes_on x (Ok (Row v)) e t = absurd t
+  line_goes_on x (Err w) e t =
+      dead_snoc s k b l w (λ u. f.follows (b ∷ u) ∙ ap (λ (r : Result Step BadLine). onward r (λ q. scanned q u)) e)
 
-  by_newline : (t : Bool) → eqb b 10 ≡ t → Said k (cond t (l ∷ lines_after [] s) (lines_after (l ++ (b ∷ [])) s)) (read_of (on_byte (step_of p b) (λ q. taken_of q s)) k)
-  by_newline true e = rw (newline_step p b (eqb-true b 10 e)) (line_ended (finish_of p) refl (finish_settled p))
+  by_newline : (t : Bool) → eqb b 10 ≡ t
+      → Said k (cond t (l ∷ lines_after [] s) (lines_after (l ++ (b ∷ [])) s)) (read_of (on_byte (step_of p b) (λ q. taken_of q s)) k)
+  by_newline true e = rw (newline_step p b (eqb-true b 10 e)) (line_ended (finish_of p) refl)
   by_newline false e = line_goes_on (eqb-false b 10 e) (step_of p b) refl (quiet p b (eqb-false b 10 e))
 
 text_said : (s : List ℕ) → Text s
@@ -268,11 +270,7 @@ lines_unended ls b l c x =
 
 row_once : (l : List ℕ) (a n o a' n' o' : ℕ) (m m' : ℤ) → Line l a n o m → Line l a' n' o' m' → values a n o m ≡ values a' n' o' m'
 row_once l a n o a' n' o' m m' x y =
-    let e : Row a n o m ≡ Row a' n' o' m' = sym (line_row l a n o m x) ∙ line_row l a' n' o' m' y in
-    let ea : a ≡ a' = cc in
-    let en : n ≡ n' = cc in
-    let eo : o ≡ o' = cc in
-    let em : m ≡ m' = cc in
+    let e : ◌≡◌ {A = Result Values BadLine} (Ok (values a n o m)) (Ok (values a' n' o' m')) = sym (line_row l a n o m x) ∙ line_row l a' n' o' m' y in
     cc
 
 pub said_once : {k : ℕ} {ls : List (List ℕ)} {vs us : List Values} {e d : Ending} → Say k ls vs e → Say k ls us d → (vs ≡ us) × (e ≡ d)

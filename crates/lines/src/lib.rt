@@ -1,11 +1,24 @@
 // The scan of lines `parent numeral order minutes`, byte by byte: its state is a value that goes from chunk to chunk, so a line may have any length.
 #![tactic(auto)]
 
-ghost use Rattle.std.specs.Prelude.{◌≡◌, ◌<◌, ◌≤◌, pos, neg_ℤ, drop};
+ghost use Rattle.std.specs.Prelude.{◌≡◌, ◌<◌, drop};
 ghost use Rattle.lines.specs.Scan.{fresh, blank_of, finish_of, digit_of, space_of, minus_of, step_of, next_of};
 
+// The numbers of a row.
+#[derive(Clone, Copy)]
+pub struct Values {
+    pub parent: u32,
+    pub numeral: u32,
+    pub order: u32,
+    pub minutes: i32,
+}
+
+// A line is no row.
+#[derive(Clone, Copy)]
+pub struct BadLine;
+
 // Where a line's scan stands: the field that is being read (0 to 3), whether it has a digit yet, whether it has a minus sign,
-// its number so far, and the fields before it.
+// its number so far, and the fields before it. The field is a number and not an enum, and its number so far 64 bits wide: `next` and `finish` take any scan.
 #[derive(Clone, Copy)]
 pub struct Scan {
     pub field: u32,
@@ -17,28 +30,18 @@ pub struct Scan {
     pub order: u32,
 }
 
-// What one byte does: the line goes on, or it has ended in a row, or it is no row.
+// What one byte does: the line goes on, or it has ended in a row.
 #[derive(Clone, Copy)]
 pub enum Step {
     More(Scan),
-    Row(u32, u32, u32, i32),
-    Bad,
+    Row(Values),
 }
 
-// What a scan from a place of a chunk finds: a row and the place after it, a bad line, or the chunk's end.
+// What a scan from a place of a chunk finds: a row and the place after it, or the chunk's end.
 #[derive(Clone, Copy)]
 pub enum Found {
-    Row(u32, u32, u32, i32, usize),
-    Bad,
+    Row(Values, usize),
     More(Scan),
-}
-
-// The number -v.
-fn negated(v: u64) -> i32
-    requires { v ≤ 2147483648 }
-    ensures { result ≡ neg_ℤ (pos v) }
-{
-    (0 - (v as i64)) as i32
 }
 
 impl Scan {
@@ -61,166 +64,118 @@ impl Scan {
     pub fn blank(self) -> bool
         ensures { result ≡ blank_of self }
     {
-        if self.field != 0 {
-            return false;
-        }
-        !self.digits
+        self.field == 0 && !self.digits
     }
 
-    // One more digit. The number so far is tested before it grows, so it can't wrap.
-    fn digit(self, d: u64) -> Step
+    // One more digit.
+    fn digit(self, d: u64) -> Result<Self, BadLine>
         requires { d < 10 }
         ensures { result ≡ digit_of self d }
     {
-        let v = self.value;
-        if 429496729 < v {
-            return Step::Bad;
+        let tens = self.value.checked_mul(10).ok_or(BadLine)?;
+        let value = tens.checked_add(d).ok_or(BadLine)?;
+        if 4294967295 < value {
+            return Err(BadLine);
         }
-        let n = v * 10 + d;
-        if 4294967295 < n {
-            return Step::Bad;
-        }
-        Step::More(Scan {
-            field: self.field,
+        Ok(Scan {
             digits: true,
-            minus: self.minus,
-            value: n,
-            parent: self.parent,
-            numeral: self.numeral,
-            order: self.order,
+            value,
+            ..self
         })
     }
 
     // The line has ended.
-    pub fn finish(self) -> Step
+    pub fn finish(self) -> Result<Values, BadLine>
         ensures { result ≡ finish_of self }
     {
-        let v = self.value;
-        if self.field != 3 {
-            return Step::Bad;
+        if self.field != 3 || !self.digits {
+            return Err(BadLine);
         }
-        if !self.digits {
-            return Step::Bad;
-        }
-        if self.minus {
-            if 2147483648 < v {
-                return Step::Bad;
-            }
-            return Step::Row(self.parent, self.numeral, self.order, negated(v));
-        }
-        if 2147483647 < v {
-            return Step::Bad;
-        }
-        Step::Row(self.parent, self.numeral, self.order, v as i32)
-    }
-
-    // A space: one of the first three fields has ended.
-    fn space(self) -> Step
-        ensures { result ≡ space_of self }
-    {
-        let v = (self.value % 4294967296) as u32;
-        let field = self.field;
-        if !self.digits {
-            return Step::Bad;
-        }
-        if field == 0 {
-            return Step::More(Scan {
-                field: 1,
-                digits: false,
-                minus: false,
-                value: 0,
-                parent: v,
-                numeral: self.numeral,
-                order: self.order,
-            });
-        }
-        if field == 1 {
-            return Step::More(Scan {
-                field: 2,
-                digits: false,
-                minus: false,
-                value: 0,
-                parent: self.parent,
-                numeral: v,
-                order: self.order,
-            });
-        }
-        if field == 2 {
-            return Step::More(Scan {
-                field: 3,
-                digits: false,
-                minus: false,
-                value: 0,
-                parent: self.parent,
-                numeral: self.numeral,
-                order: v,
-            });
-        }
-        Step::Bad
-    }
-
-    // A minus sign: the first byte of the last field.
-    fn minus(self) -> Step
-        ensures { result ≡ minus_of self }
-    {
-        let field = self.field;
-        if field != 3 {
-            return Step::Bad;
-        }
-        if self.digits {
-            return Step::Bad;
-        }
-        if self.minus {
-            return Step::Bad;
-        }
-        Step::More(Scan {
-            field: 3,
-            digits: false,
-            minus: true,
-            value: 0,
+        let value = i64::try_from(self.value).map_err(|_| BadLine)?;
+        let minutes = if self.minus { -value } else { value };
+        let minutes = i32::try_from(minutes).map_err(|_| BadLine)?;
+        Ok(Values {
             parent: self.parent,
             numeral: self.numeral,
             order: self.order,
+            minutes,
+        })
+    }
+
+    // A space: one of the first three fields has ended.
+    fn space(self) -> Result<Self, BadLine>
+        ensures { result ≡ space_of self }
+    {
+        if !self.digits {
+            return Err(BadLine);
+        }
+        let value = (self.value % 4294967296) as u32;
+        let next = Scan {
+            digits: false,
+            minus: false,
+            value: 0,
+            ..self
+        };
+        match self.field {
+            0 => Ok(Scan {
+                field: 1,
+                parent: value,
+                ..next
+            }),
+            1 => Ok(Scan {
+                field: 2,
+                numeral: value,
+                ..next
+            }),
+            2 => Ok(Scan {
+                field: 3,
+                order: value,
+                ..next
+            }),
+            _ => Err(BadLine),
+        }
+    }
+
+    // A minus sign: the first byte of the last field.
+    fn minus(self) -> Result<Self, BadLine>
+        ensures { result ≡ minus_of self }
+    {
+        if self.field != 3 || self.digits || self.minus {
+            return Err(BadLine);
+        }
+        Ok(Scan {
+            minus: true,
+            value: 0,
+            ..self
         })
     }
 
     // One more byte of the text.
-    fn step(self, b: u8) -> Step
+    #[tactic(auto, unfolding(crate::specs::Scan::step_of))]
+    fn step(self, b: u8) -> Result<Step, BadLine>
         ensures { result ≡ step_of self b }
     {
-        if b == 10 {
-            return self.finish();
+        match b {
+            b'\n' => Ok(Step::Row(self.finish()?)),
+            b' ' => Ok(Step::More(self.space()?)),
+            b'-' => Ok(Step::More(self.minus()?)),
+            b'0'..=b'9' => Ok(Step::More(self.digit(u64::from(b - b'0'))?)),
+            _ => Err(BadLine),
         }
-        if b == 32 {
-            return self.space();
-        }
-        if b == 45 {
-            return self.minus();
-        }
-        if b < 48 {
-            return Step::Bad;
-        }
-        if 57 < b {
-            return Step::Bad;
-        }
-        self.digit((b - 48) as u64)
     }
 }
 
 // Goes on with a scan from a place of a chunk, to the end of the line or of the chunk.
-pub fn next(s: &[u8], from: usize, scan: Scan) -> Found
+#[tactic(auto, using(crate::proofs::Turn::turn, crate::proofs::Turn::ended))]
+pub fn next(s: &[u8], from: usize, scan: Scan) -> Result<Found, BadLine>
     ensures { result ≡ next_of scan from (drop from s.now) }
 {
-    let mut p = scan;
-    let mut i = from;
-    while i < s.len() {
-        let b = s[i];
-        i += 1;
-        match p.step(b) {
-            Step::More(q) => p = q,
-            Step::Row(a, n, o, m) => return Found::Row(a, n, o, m, i),
-            Step::Bad => return Found::Bad,
+    let mut now = scan;
+    for i in from..s.len() {
+        match now.step(s[i])? {
+            Step::More(more) => now = more,
+            Step::Row(values) => return Ok(Found::Row(values, i + 1)),
         }
     }
-    Found::More(p)
+    Ok(Found::More(now))
 }

@@ -1,10 +1,13 @@
 -- What the listing program has made of a text, in the terms of the text's lines, as definitions. Assumes nothing.
-use Rattle.std.specs.Prelude.{ℕ, cond, List, [], ◌∷◌, eqb}
+use Rattle.std.specs.Prelude.{ℕ, cond, List, [], ◌∷◌, eqb, Option, None, Some}
 use Rattle.board.specs.declared.Board.{Board}
 use Rattle.board.specs.Edits.{add_of}
-use Rattle.lines.specs.Text.{Values, Ending, whole, bad_line}
+use Rattle.lines.specs.declared.Values.{Values}
+use Rattle.lines.specs.Text.{Ending, whole, bad_line}
 use Rattle.listing.specs.Loading.{row_of}
 use Rattle.listing.specs.declared.Load.{Load}
+use Rattle.listing.specs.declared.Wrong.{Wrong}
+use Rattle.listing.specs.declared.Wrong.TheVariants as wrong
 
 -- a board, or "A refusal prints `refused`, a space and its number", or "`bad line`, a space and its number, counted from 1"
 pub data Outcome : Type 0 where
@@ -12,8 +15,14 @@ pub data Outcome : Type 0 where
   refused_by : ℕ → Outcome
   bad_at : ℕ → Outcome
 
+-- what is wrong, if anything, at line k, or else the board
+abbrev pub outcome : Option Wrong → ℕ → Board → Outcome
+outcome None k b = loaded b
+outcome (Some wrong.BadLine) k b = bad_at k
+outcome (Some (wrong.Refused n)) k b = refused_by n
+
 abbrev pub outcome_of : Load → Outcome
-outcome_of l = cond l.bad (bad_at l.line) (cond (eqb l.refusal 0) (loaded l.board) (refused_by l.refusal))
+outcome_of l = outcome l.wrong l.line l.board
 
 abbrev pub ended : Board → Ending → Outcome
 ended b whole = loaded b

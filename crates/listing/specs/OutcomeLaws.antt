@@ -1,10 +1,10 @@
 -- Borders of chunks do not matter, and a whole text gives what its lines say: their rows added in order to the empty board, up to the first thing that is wrong. Assumes nothing.
-use Rattle.std.specs.Prelude.{ℕ, ◌+◌, ◌≤◌, ◌<◌, ◌≡◌, Bool, cond, not, ◌||◌, List, [], ◌∷◌, ◌++◌, map, eqb, length}
+use Rattle.std.specs.Prelude.{ℕ, ◌+◌, ◌≤◌, ◌<◌, ◌≡◌, Bool, cond, List, [], ◌∷◌, ◌++◌, map, eqb, length, None, Some, Result, Ok, Err}
 use Rattle.std.proofs.Common.{arith, mod-eq_of_lt, ap₂, ◌∙◌, append_assoc, append-nil, length-append, length-take-le}
 use Rattle.std.proofs.Math.Path.{refl, sym, ap}
-use Rattle.std.proofs.Math.Bool.{true, false, or-true}
+use Rattle.std.proofs.Math.Bool.{true, false}
 use Rattle.std.proofs.lemmas.List.{length-replicate}
-use borrow.Author.Tests.{eq-eqb, ne_eqb, eqb-true, eqb-false}
+use borrow.Author.Tests.{eqb-true, eqb-false}
 use Rattle.lists.specs.StoreLaws.{length_front, take_front}
 use Rattle.rows.specs.declared.Row.{Row}
 use Rattle.board.specs.declared.Board.{Board}
@@ -12,15 +12,18 @@ use Rattle.board.specs.declared.Edited.{Edited}
 use Rattle.rows.specs.Journal.{blank}
 use Rattle.board.specs.Edits.{add_refusal, add_of, empty_of, rows_of, refused, accepted}
 use Rattle.board.specs.OperationLaws.{add_none}
+use Rattle.lines.specs.declared.BadLine.{BadLine}
 use Rattle.lines.specs.declared.Scan.{Scan}
 use Rattle.lines.specs.declared.Step.{Step}
 use Rattle.lines.specs.declared.Step.TheVariants as step
-use Rattle.lines.specs.Scan.{fresh, blank_of, finish_of, step_of}
+use Rattle.lines.specs.declared.Values.{Values}
+use Rattle.lines.specs.Scan.{fresh, blank_of, finish_of, ended, step_of}
 use Rattle.lines.specs.TextLaws.{Rest, within, broken, Taken, on_byte, taken_of, at_end, ended_of, text_read, said_once}
-use Rattle.lines.specs.Text.{lines_of, Values, values, Ending, whole, bad_line, Say}
-use Rattle.listing.specs.Loading.{start_of, stopped, row_of, enter_of, goes_on, is_bad, on_step, feed_byte, feed_of, end_of}
-use Rattle.listing.specs.Outcome.{loaded, refused_by, outcome_of, add_rows}
+use Rattle.lines.specs.Text.{lines_of, Ending, whole, bad_line, Say}
+use Rattle.listing.specs.Loading.{start_of, stopped, row_of, refused_with, enter_of, goes_on, is_bad, on_step, feed_byte, feed_of, end_of}
+use Rattle.listing.specs.Outcome.{loaded, refused_by, outcome, outcome_of, add_rows}
 use Rattle.listing.specs.declared.Load.{Load}
+use Rattle.listing.specs.declared.Wrong.TheVariants as wrong
 
 -- ---- what is taken from a text, entered line by line
 
@@ -55,19 +58,9 @@ unfolding feed_of
 feed_stopped l [] h = refl
 feed_stopped l (b ∷ s) h = rw h (feed_stopped l s h)
 
-module _ (l : Load) where
-  pub stopped_refused : (l.refusal ≡ 0 → ⊥) → stopped l ≡ true
-  stopped_refused h = simp (ne_eqb _ _ h)
-
-  pub stopped_bad : l.bad ≡ true → stopped l ≡ true
-  stopped_bad h = ap (λ (b : Bool). not (eqb l.refusal 0) || b) h ∙ or-true (not (eqb l.refusal 0))
-
-  pub not_stopped : l.refusal ≡ 0 → l.bad ≡ false → stopped l ≡ false
-  not_stopped r h = simp (eq-eqb _ _ r, h)
-
-  pub end_stopped : stopped l ≡ true → l ≡ end_of l
-  unfolding end_of
-  end_stopped h = rw h
+pub end_stopped : (l : Load) → stopped l ≡ true → l ≡ end_of l
+unfolding end_of
+end_stopped l h = rw h
 
 -- ---- the bytes of a text do what the lines do that are taken from it
 
@@ -87,12 +80,12 @@ feed_taken [] l = same (stopped l)
     same false = refl
 feed_taken (b ∷ s) l = go (λ k. feed_taken s k) (stopped l) refl (step_of l.scan b)
   where
-    go : ((k : Load) → feed_of k s ≡ absorb k (taken_of k.scan s)) → (t : Bool) → stopped l ≡ t → (x : Step)
+    go : ((k : Load) → feed_of k s ≡ absorb k (taken_of k.scan s)) → (t : Bool) → stopped l ≡ t → (x : Result Step BadLine)
         → feed_of (cond t l (on_step l x)) s ≡ absorb l (on_byte x (λ q. taken_of q s))
     go rec true h x = sym (feed_stopped l s h) ∙ sym (absorb_stopped l h (on_byte x (λ q. taken_of q s)).rows (on_byte x (λ q. taken_of q s)).rest)
-    go rec false h (step.More q) = rec (goes_on l q) ∙ rest_anew l q (taken_of q s).rows (taken_of q s).rest h
-    go rec false h (step.Row a n o m) = rw h (rec (enter_of l (values a n o m)))
-    go rec false h step.Bad = rw h (sym (feed_stopped (is_bad l) s (stopped_bad (is_bad l) refl)))
+    go rec false h (Ok (step.More q)) = rec (goes_on l q) ∙ rest_anew l q (taken_of q s).rows (taken_of q s).rest h
+    go rec false h (Ok (step.Row v)) = rw h (rec (enter_of l v))
+    go rec false h (Err e) = rw h (sym (feed_stopped (is_bad l) s refl))
 
 -- a text fed in two chunks is fed whole
 pub feed_chunks : (l : Load) (s t : List ℕ) → feed_of (feed_of l s) t ≡ feed_of l (s ++ t)
@@ -141,15 +134,19 @@ module _ (b : Board) (r : Row) (g : Sized b) where
 -- ---- the whole text
 
 abbrev reading : ℕ → Scan → Board → Load
-reading k p b = record { refusal = 0; bad = false; line = k; scan = p; board = b }
+reading k p b = record { wrong = None; line = k; scan = p; board = b }
 
-last_line_lem : (k : ℕ) (q : Scan) (b : Board) (t : Bool) (r : Step)
-    → outcome_of (cond t (reading k q b) (on_step (reading k q b) r))
+refused_outcome : (n k : ℕ) (b : Board) (t : Bool)
+    → outcome (cond t None (Some (wrong.Refused n))) k b ≡ cond t (loaded b) (refused_by n)
+refused_outcome n k b true = refl
+refused_outcome n k b false = refl
+
+last_line_lem : (k : ℕ) (q : Scan) (b : Board) (t : Bool) (r : Result Values BadLine)
+    → outcome_of (cond t (reading k q b) (on_step (reading k q b) (ended r)))
     ≡ add_rows b (cond t (record { rows = []; ending = whole }) (at_end r k)).rows (cond t (record { rows = []; ending = whole }) (at_end r k)).ending
 last_line_lem k q b true r = refl
-last_line_lem k q b false (step.More x) = refl
-last_line_lem k q b false (step.Row a n o m) = refl
-last_line_lem k q b false step.Bad = refl
+last_line_lem k q b false (Ok v) = refused_outcome (add_of b (row_of v)).refusal _ _ (eqb (add_of b (row_of v)).refusal 0)
+last_line_lem k q b false (Err e) = refl
 
 Gives : List Values → Rest → Type 0
 Gives vs r =
@@ -160,7 +157,7 @@ module _ (v : Values) (vs : List Values) (r : Rest) (rec : Gives vs r) (k : ℕ)
   next_line : (add_of b (row_of v)).refusal ≡ 0 → enter_of (reading k p b) v ≡ reading (k + 1) fresh (add_of b (row_of v)).board
   next_line z =
       let small : k < 4294967296 = omega (arith, g.small) in
-      ap₂ {C = Load} (λ (x y : ℕ). record { refusal = x; bad = false; line = y + 1; scan = fresh; board = (add_of b (row_of v)).board }) z (mod-eq_of_lt small)
+      ap₂ {C = Load} (λ (x y : ℕ). record { wrong = refused_with x; line = y + 1; scan = fresh; board = (add_of b (row_of v)).board }) z (mod-eq_of_lt small)
 
   next_row : (t : Bool) → eqb (add_of b (row_of v)).refusal 0 ≡ t
       → outcome_of (end_of (absorb (enter_of (reading k p b) v) (record { rows = vs; rest = r })))

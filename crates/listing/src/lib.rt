@@ -2,20 +2,25 @@
 #![tactic(auto)]
 
 ghost use Rattle.std.specs.Prelude.{◌≡◌};
-ghost use Rattle.lines.specs.Text.{values};
 ghost use Rattle.listing.specs.Nodes.{columns_of};
 ghost use Rattle.listing.specs.Loading.{start_of, enter_of, is_bad, feed_of, end_of};
 
 use board::Board;
-use lines::{Found, Scan, Step};
+use lines::{BadLine, Found, Scan, Values};
 use printing::Columns;
 
-// How far the input has been read: the refusal of the first row that was refused (0 if none was), whether a line is bad,
-// the number of the line that is being read, the scan of that line, and the rows so far.
+// What is wrong with an input: a line that is no row, or a row that the board refuses, with the number that the edit answers.
+#[derive(Clone, Copy)]
+pub enum Wrong {
+    BadLine,
+    Refused(u32),
+}
+
+// How far the input has been read: the first thing that is wrong with it, the number of the line that is being read,
+// the scan of that line, and the rows so far.
 #[derive(Clone, Copy)]
 pub struct Load {
-    pub refusal: u32,
-    pub bad: bool,
+    pub wrong: Option<Wrong>,
     pub line: u64,
     pub scan: Scan,
     pub board: Board,
@@ -26,8 +31,7 @@ impl Load {
         ensures { result ≡ start_of }
     {
         Load {
-            refusal: 0,
-            bad: false,
+            wrong: None,
             line: 1,
             scan: Scan::new(),
             board: Board::empty(),
@@ -35,15 +39,18 @@ impl Load {
     }
 
     // The line that is being read is a row.
-    fn enter(self, parent: u32, numeral: u32, order: u32, minutes: i32) -> Load
-        ensures { result ≡ enter_of self (values parent numeral order minutes) }
+    fn enter(self, values: Values) -> Load
+        ensures { result ≡ enter_of self values }
     {
-        let board = self.board;
-        let edited = board.add(rows::undated_row(parent, numeral, order, minutes));
+        let row = rows::undated_row(values.parent, values.numeral, values.order, values.minutes);
+        let edited = self.board.add(row);
         let added = edited.board;
+        let wrong = match edited.refusal {
+            0 => None,
+            refusal => Some(Wrong::Refused(refusal)),
+        };
         Load {
-            refusal: edited.refusal,
-            bad: self.bad,
+            wrong,
             line: self.line % 4294967296 + 1,
             scan: Scan::new(),
             board: added,
@@ -54,13 +61,10 @@ impl Load {
     fn bad_line(self) -> Load
         ensures { result ≡ is_bad self }
     {
-        let board = self.board;
         Load {
-            refusal: self.refusal,
-            bad: true,
-            line: self.line,
+            wrong: Some(Wrong::BadLine),
             scan: Scan::new(),
-            board,
+            ..self
         }
     }
 
@@ -69,51 +73,36 @@ impl Load {
     pub fn end(self) -> Load
         ensures { result ≡ end_of self }
     {
-        if self.refusal != 0 {
-            return self;
-        }
-        if self.bad {
-            return self;
-        }
         let scan = self.scan;
-        if scan.blank() {
+        if self.wrong.is_some() || scan.blank() {
             return self;
         }
         match scan.finish() {
-            Step::Row(parent, numeral, order, minutes) => self.enter(
-                parent, numeral, order, minutes,
-            ),
-            Step::Bad => self.bad_line(),
-            Step::More(_) => self,
+            Ok(values) => self.enter(values),
+            Err(BadLine) => self.bad_line(),
         }
     }
 }
 
 // Goes on with the bytes of a chunk, a line at each turn.
-#[tactic(auto, using(crate::proofs::Turns::feed_still))]
+#[tactic(auto, using(crate::proofs::Turns::feed_turn, crate::proofs::Turns::feed_over, crate::proofs::Turns::feed_still))]
 pub fn feed(load: Load, chunk: &[u8]) -> Load
     ensures { result ≡ feed_of load chunk.now }
 {
     let mut now = load;
     let mut at = 0;
-    while at < chunk.len() {
-        if now.refusal != 0 {
-            return now;
-        }
-        if now.bad {
-            return now;
-        }
+    while at < chunk.len() && now.wrong.is_none() {
         let scan = now.scan;
         match lines::next(chunk, at, scan) {
-            Found::Row(parent, numeral, order, minutes, next) => {
+            Ok(Found::Row(values, next)) => {
                 at = next;
-                now = now.enter(parent, numeral, order, minutes);
+                now = now.enter(values);
             }
-            Found::Bad => return now.bad_line(),
-            Found::More(q) => {
-                now.scan = q;
+            Ok(Found::More(more)) => {
+                now.scan = more;
                 return now;
             }
+            Err(BadLine) => return now.bad_line(),
         }
     }
     now
@@ -125,23 +114,15 @@ pub fn columns(index: &[u32], totals: &[i64], rank: u32) -> Columns
 {
     let at = rank as usize;
     let word = image::word_at(index, at);
-    let size = image::size_at(index, at);
-    let parent = image::parent_at(index, at);
-    let level = packed::level_of(word);
-    let root = image::root_at(index, at);
-    let closing = packed::closing_of(word);
-    let orphan = packed::orphan_of(word);
-    let numeral = image::numeral_at(index, at);
-    let summed = sums::subtree_sum(index, totals, rank);
     Columns {
         rank,
-        size,
-        parent,
-        level,
-        root,
-        closing,
-        orphan,
-        numeral,
-        sum: summed.sum,
+        size: image::size_at(index, at),
+        parent: image::parent_at(index, at),
+        level: packed::level_of(word),
+        root: image::root_at(index, at),
+        closing: packed::closing_of(word),
+        orphan: packed::orphan_of(word),
+        numeral: image::numeral_at(index, at),
+        sum: sums::subtree_sum(index, totals, rank).unwrap_or(0),
     }
 }

@@ -1,3 +1,4 @@
+pub mod LinkLaws
 pub mod MeetLaws
 pub mod PassingLaws
 pub mod AcceptedLaws

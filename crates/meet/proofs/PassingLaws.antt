@@ -6,7 +6,7 @@ use Rattle.lists.specs.Lists.{◌∈◌}
 use Rattle.lists.specs.ChoiceLaws.{or_no, cond_none, first_zero}
 use Rattle.image.specs.Layout.{parent_at, bad_contents}
 use Rattle.spans.specs.Spans.{rank_refusal}
-use Rattle.spans.specs.UnrefusedLaws.{Ranked, ranked, rank_there}
+use Rattle.spans.specs.UnrefusedLaws.{ranked, rank_there}
 use Rattle.climb.specs.Climb.{chain, bad_climb}
 use Rattle.climb.specs.ClimbLaws.{chain_step, chain_done, stuck_step, goes_down}
 use Rattle.climber.specs.Climber.{answer, climb_one_answer, comes_to, Passes}

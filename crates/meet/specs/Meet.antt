@@ -1,7 +1,9 @@
 -- Paper 02, request 2.10, "Where two parts meet": what the call answers to any slice and any two ranks, and what is said of its answer. Assumes nothing: these are definitions.
-use Rattle.std.specs.Prelude.{◌≡◌, ◌↔◌, ℕ, ◌≤◌, List, [], ◌∷◌, true, false, cond, ◌||◌, ltb, eqb}
+use Rattle.std.specs.Prelude.{◌≡◌, ◌↔◌, ℕ, ◌≤◌, List, [], ◌∷◌, Option, Some, None, Result, Ok, Err, true, false, cond, ◌||◌, ltb, eqb}
 use Rattle.lists.specs.Lists.{◌∈◌, filter, any}
 use Rattle.lists.specs.Choice.{first_of}
+use Rattle.refusal.specs.Numbers.{number}
+use Rattle.refusal.specs.declared.Refusal.{Refusal}
 use Rattle.spans.specs.Spans.{rank_refusal}
 use Rattle.climb.specs.Climb.{chain, bad_climb}
 use Rattle.climber.specs.Climber.{Passes}
@@ -18,6 +20,12 @@ largest k (x ∷ l) = largest (cond (ltb k x) x k) l
 
 abbrev pub refused : ℕ → Meeting
 refused n = record { refusal = n; found = false; rank = 0 }
+
+-- an answer as C has it: the number of the refusal or 0, whether there is a rank, and the rank or 0
+abbrev pub met : Result (Option ℕ) Refusal → Meeting
+met (Ok (Some rank)) = record { refusal = 0; found = true; rank = rank }
+met (Ok None) = record { refusal = 0; found = false; rank = 0 }
+met (Err refusal) = refused (number refusal)
 
 -- "the answer is the largest; it is "none" exactly when no such rank exists"
 abbrev pub meeting_of : List ℕ → Meeting

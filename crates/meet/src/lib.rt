@@ -2,14 +2,14 @@
 #![tactic(auto)]
 
 ghost use Rattle.std.specs.Prelude.{◌≡◌, ◌≤◌, length};
-ghost use Rattle.lists.specs.Choice.{first_of};
+ghost use Rattle.refusal.specs.Numbers.{refusal_of};
 ghost use Rattle.image.specs.Layout.{bodies_end};
-ghost use Rattle.spans.specs.Spans.{rank_refusal};
-ghost use Rattle.climb.specs.Climb.{bad_climb};
-ghost use Rattle.meet.specs.Meet.{refused, meet_answer};
-ghost use Rattle.meet.specs.MeetLayer.{climbs_meet};
+ghost use Rattle.meet.specs.Meet.{met, meet_answer};
+ghost use Rattle.meet.specs.MeetLayer.{below, climb_break, climbs_meet};
 
-// The answer: whether the two nodes meet, and the rank where they do, 0 for none.
+use refusal::Refusal;
+
+// The answer as C has it: whether the two nodes meet, and the rank where they do, 0 for none.
 #[repr(C)]
 #[derive(Clone, Copy)]
 pub struct Meeting {
@@ -18,82 +18,75 @@ pub struct Meeting {
     pub rank: u32,
 }
 
-fn refused(refusal: u32) -> Meeting
-    ensures { result ≡ refused refusal }
-{
-    Meeting {
-        refusal,
-        found: false,
-        rank: 0,
+impl From<Result<Option<u32>, Refusal>> for Meeting {
+    ghost from_gives = { λ answer c. c ≡ met answer };
+
+    fn from(answer: Result<Option<u32>, Refusal>) -> Meeting {
+        match answer {
+            Ok(rank) => Meeting {
+                refusal: 0,
+                found: rank.is_some(),
+                rank: rank.unwrap_or(0),
+            },
+            Err(refusal) => Meeting {
+                refusal: refusal.number(),
+                found: false,
+                rank: 0,
+            },
+        }
     }
 }
 
-// Whether a climb to rank 0 meets a parent rank not below its own.
-fn climb_breaks(index: &[u32], rank: usize) -> bool
+// The parent of a rank; refused where it isn't below the rank.
+fn parent_below(index: &[u32], k: usize) -> Result<usize, Refusal>
+    requires { (1 ≤ k) × (bodies_end k ≤ length index.now) }
+    ensures { result ≡ below index.now k }
+{
+    let parent = image::body_of(index, k).parent as usize;
+    if k <= parent {
+        return Err(Refusal::DamagedIndex);
+    }
+    Ok(parent)
+}
+
+// Climbs to rank 0; refused where a parent rank is not below its own.
+fn climb_on(index: &[u32], rank: usize) -> Result<(), Refusal>
     requires { bodies_end rank ≤ length index.now }
-    ensures { result ≡ bad_climb index.now rank }
+    ensures { refusal_of result ≡ climb_break index.now rank }
 {
     let mut k = rank;
     while 0 < k {
-        let parent = image::body_of(index, k).parent as usize;
-        if k <= parent {
-            return true;
-        }
-        k = parent;
+        k = parent_below(index, k)?;
     }
-    false
+    Ok(())
 }
 
 // Two climbs at once: the one at the larger rank goes up, until both are at the same rank, where they meet; at rank 0 where they don't. From there on they are one climb.
-fn climbs_meet(index: &[u32], a: usize, b: usize) -> Meeting
+fn climbs_meet(index: &[u32], a: usize, b: usize) -> Result<Option<u32>, Refusal>
     requires { (bodies_end a ≤ length index.now) × (bodies_end b ≤ length index.now) × (a ≤ 65535) × (b ≤ 65535) }
-    ensures { result ≡ climbs_meet index.now a b }
+    ensures { met result ≡ climbs_meet index.now a b }
 {
     let mut x = a;
     let mut y = b;
     while x != y {
         if x < y {
-            let parent = image::body_of(index, y).parent as usize;
-            if y <= parent {
-                return refused(15);
-            }
-            y = parent;
+            y = parent_below(index, y)?;
         } else {
-            let parent = image::body_of(index, x).parent as usize;
-            if x <= parent {
-                return refused(15);
-            }
-            x = parent;
+            x = parent_below(index, x)?;
         }
     }
-    if climb_breaks(index, x) {
-        return refused(15);
+    climb_on(index, x)?;
+    if 0 < x {
+        return Ok(Some(x as u32));
     }
-    Meeting {
-        refusal: 0,
-        found: 0 < x,
-        rank: x as u32,
-    }
+    Ok(None)
 }
 
-// Both ranks are judged before either climb.
-fn ranks_refusal(index: &[u32], a: u32, b: u32) -> u32
-    ensures { result ≡ first_of (rank_refusal index.now a) (rank_refusal index.now b) }
+// The largest rank that is an ancestor of both nodes, themselves included. Both ranks are judged before either climb.
+pub fn meet(index: &[u32], a: u32, b: u32) -> Result<Option<u32>, Refusal>
+    ensures { met result ≡ meet_answer index.now a b }
 {
-    let refusal = spans::rank_refusal(index, a);
-    if refusal != 0 {
-        return refusal;
-    }
-    spans::rank_refusal(index, b)
-}
-
-// The largest rank that is an ancestor of both nodes, themselves included.
-pub fn meet(index: &[u32], a: u32, b: u32) -> Meeting
-    ensures { result ≡ meet_answer index.now a b }
-{
-    let refusal = ranks_refusal(index, a, b);
-    if refusal != 0 {
-        return refused(refusal);
-    }
+    spans::check_rank(index, a)?;
+    spans::check_rank(index, b)?;
     climbs_meet(index, a as usize, b as usize)
 }

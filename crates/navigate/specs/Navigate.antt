@@ -1,7 +1,9 @@
 -- Paper 01, "Navigation": what descendants and siblings answer, and what they leave in the lent slice. Assumes nothing: these are definitions.
-use Rattle.std.specs.Prelude.{ℕ, List, cond, length, ltb, eqb, ℤ}
+use Rattle.std.specs.Prelude.{ℕ, List, Result, Ok, Err, cond, length, ltb, eqb, ℤ}
 use Rattle.lists.specs.Lists.{filter, numbers, front}
 use Rattle.lists.specs.Choice.{first_of}
+use Rattle.refusal.specs.Numbers.{number}
+use Rattle.refusal.specs.declared.Refusal.{Refusal}
 use Rattle.image.specs.Layout.{node_count, size_at, parent_at}
 use Rattle.navigate.specs.declared.Listed.{Listed}
 use Rattle.spans.specs.Spans.{rank_refusal, span_refusal}
@@ -14,6 +16,11 @@ descendant_list s rank lo hi = filter (λ k. within lo hi (distance s rank k)) (
 -- siblings: all ranks with the same parent rank, rising
 unfoldable pub sibling_list : List ℕ → ℕ → List ℕ
 sibling_list s rank = filter (λ k. eqb (parent_at s k) (parent_at s rank)) (numbers 1 (node_count s))
+
+-- an answer as C has it: the number of the refusal or 0, and the length of the list
+abbrev pub listed : Result ℕ Refusal → Listed
+listed (Ok len) = record { refusal = 0; len = len }
+listed (Err refusal) = record { refusal = number refusal; len = 0 }
 
 -- the refusal before the list is made, else 16 where the list is longer than its slice
 abbrev pub list_refusal : ℕ → List ℕ → List ℕ → ℕ

@@ -1,6 +1,6 @@
 -- Under adopt, the bodies of all nodes as walks write them: the start rows before the last; the adopting row's own body, whose size counts the orphans and the entries too, and its subtree; the
 -- orphans, with no numeral seen, and then the entries, at level 2. Assumes nothing.
-use Rattle.std.specs.Prelude.{◌≡◌, ◌≢◌, Bool, get_or, drop}
+use Rattle.std.specs.Prelude.{◌≡◌, ◌≢◌, Bool, get_or, drop, None}
 use Rattle.std.proofs.Math.Path.{refl, ap, ap₂, subst}
 use Rattle.std.proofs.Common.{sym, ◌∙◌, inl, inr}
 use Rattle.std.proofs.Math.Logic.{⊎_elim}
@@ -12,7 +12,6 @@ use Rattle.std.proofs.Math.Dec.{T, eqb, eqb_refl}
 use Rattle.std.proofs.Math.ListN.{length, length-append, length-map}
 use Rattle.rows.specs.declared.Row.{Row}
 use Rattle.image.specs.declared.Body.{Body}
-use Rattle.options.specs.declared.Depth.TheVariants.{None}
 use Rattle.options.specs.Options.{level_limit}
 use Rattle.lists.specs.Lists.{◌∈◌, Increasing}
 use Rattle.lists.specs.MemberLaws.{and_out, and_in, map_in, map_out, map_append, append_out, append_left, append_right, flat_map_append, filter_none, filter_all, filter_append, increasing_filter, increasing_prefix, distinct_before}

@@ -11,7 +11,7 @@ use Rattle.std.proofs.Math.ListN.{length, get_or, length-map, get_or-append}
 use Rattle.rows.specs.declared.Row.{Row}
 use Rattle.rows.specs.Journal.{blank}
 use Rattle.image.specs.declared.Body.{Body}
-use Rattle.options.specs.declared.Depth.{Depth}
+use Rattle.options.specs.Options.{Depth}
 use Rattle.options.specs.Options.{level_limit}
 use Rattle.lists.specs.Lists.{◌∈◌, filter, numbers, totals_from}
 use Rattle.lists.specs.MemberLaws.{is_true, is_false, filter_agree, filter_out, filter_in, map_append, map_agree, map_map, map_in, map_out, get_d_append_right, numbers_in, numbers_out, totals_map, append_out, append_right}

@@ -1,6 +1,6 @@
 -- The bodies of all nodes are what depth-first walks write: one walk where there are no orphan nodes, at any depth; under root a second over the rows of U, and then for each entry its own
 -- body and a walk over the rows in I at that step. Assumes nothing.
-use Rattle.std.specs.Prelude.{◌≡◌, ◌⊎◌, ◌≢◌, Bool, true, eqb}
+use Rattle.std.specs.Prelude.{◌≡◌, ◌⊎◌, ◌≢◌, Bool, true, eqb, None}
 use Rattle.std.proofs.Math.Path.{refl, sym, ap, ap₂}
 use Rattle.std.proofs.Common.{subst, ◌∙◌, inl, inr, eqb→eq}
 use Rattle.std.proofs.Math.Logic.{⊎_elim}
@@ -12,8 +12,7 @@ use Rattle.std.proofs.Math.Dec.{T}
 use Rattle.std.proofs.Math.ListN.{length, get_or, length-append, length-map}
 use Rattle.rows.specs.declared.Row.{Row}
 use Rattle.image.specs.declared.Body.{Body}
-use Rattle.options.specs.declared.Depth.{Depth}
-use Rattle.options.specs.declared.Depth.TheVariants.{None}
+use Rattle.options.specs.Options.{Depth}
 use Rattle.options.specs.Options.{level_limit}
 use Rattle.lists.specs.Lists.{◌∈◌, Increasing}
 use Rattle.lists.specs.MemberLaws.{and_out, map_out, map_append, append_out, increasing_filter}

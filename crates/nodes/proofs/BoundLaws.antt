@@ -1,6 +1,6 @@
 -- A node ends in a row of the board or in an entry; a body shows row 0 exactly where the node ends in an entry. Of a board of at most 1,024 rows: no level is above 1,026, so it fits 16 bits;
 -- minutes fit 32 bits. Assumes nothing.
-use Rattle.std.specs.Prelude.{◌≡◌, ◌⊎◌, ◌≢◌, Bool, true, false, List, [], ◌∷◌, T, ℤ, get_or, take}
+use Rattle.std.specs.Prelude.{◌≡◌, ◌⊎◌, ◌≢◌, Bool, true, false, List, [], ◌∷◌, T, ℤ, get_or, take, None, Some}
 use Rattle.std.proofs.Common.{sym, subst, ◌∙◌, inl, inr, arith}
 use Rattle.std.proofs.Math.Path.{ap}
 use Rattle.std.proofs.Math.Logic.{⊎_elim}
@@ -11,8 +11,7 @@ use Rattle.std.proofs.Math.ListN.{length, get_or-eq_default}
 use Rattle.rows.specs.Journal.{blank}
 use Rattle.rows.specs.declared.Row.{Row}
 use Rattle.image.specs.declared.Body.{Body}
-use Rattle.options.specs.declared.Depth.{Depth}
-use Rattle.options.specs.declared.Depth.TheVariants.{None, Limit}
+use Rattle.options.specs.Options.{Depth}
 use Rattle.lists.specs.Lists.{◌∈◌}
 use Rattle.lists.specs.MemberLaws.{get_or_in, map_out}
 use Rattle.paths.specs.Forest.{node}
@@ -64,7 +63,7 @@ module _ (R : List Row) (start : Row → Bool) where
 
   -- below an entry a path has at most as many rows as the board
   entered_short : (depth : Depth) (p : List ℕ) → AnyEntryPath R start (without_depth depth (entries R start)) p → length p ≤ suc (length R)
-  entered_short (Limit d) p c = absurd (omega (arith, c.1))
+  entered_short (Some d) p c = absurd (omega (arith, c.1))
   entered_short None p c = ⊎_elim (λ e. omega (arith, ap length e)) (λ m. let r = map_out (λ p. (suc (length R) + k.0) ∷ p) (below_entry R pool x) p m in
       omega (arith, ap length r.2, below_short R pool x short (runs_at R (islands R start) (entries R start) (entries_run R start) k.0 k.1).0.0 r.0 r.1, short)) k.2
     where

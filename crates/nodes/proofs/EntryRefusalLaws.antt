@@ -1,5 +1,5 @@
 -- An entry makes refusals 10 and 11 apply: below it a path ends in a row with its numeral, so that path closes, both share the numeral, and the entry's tree size is above 1. Assumes nothing.
-use Rattle.std.specs.Prelude.{◌≡◌, refl, ◌⊎◌, ◌≢◌, Bool, true, ◌&&◌, ℕ, suc, ◌+◌, ◌-◌, ◌≤◌, ◌<◌, eqb, take}
+use Rattle.std.specs.Prelude.{◌≡◌, refl, ◌⊎◌, ◌≢◌, Bool, true, ◌&&◌, ℕ, suc, ◌+◌, ◌-◌, ◌≤◌, ◌<◌, eqb, take, None, Some}
 use Rattle.std.proofs.Math.Path.{sym, ap, subst}
 use Rattle.std.proofs.Common.{◌∙◌, inl, inr, ⊎_elim, arith}
 use mathlib.Core.List.{List, [], ◌∷◌}
@@ -7,8 +7,7 @@ use Rattle.std.proofs.Math.Dec.{T, ltb, eqb_refl, lt→ltb}
 use Rattle.std.proofs.Math.ListN.{length, get_or}
 use Rattle.rows.specs.declared.Row.{Row}
 use Rattle.image.specs.declared.Body.{Body}
-use Rattle.options.specs.declared.Depth.{Depth}
-use Rattle.options.specs.declared.Depth.TheVariants.{None, Limit}
+use Rattle.options.specs.Options.{Depth}
 use Rattle.lists.specs.Lists.{◌∈◌, any}
 use Rattle.lists.specs.MemberLaws.{and_in, or_left, is_true, any_in, get_or_in, place_of, map_in}
 use Rattle.forest.specs.Nodes.{begins, tree_size}
@@ -105,8 +104,8 @@ module _ (R : List Row) (start : Row → Bool) where
   unfolding entries_of with_entries
   node_ring depth ignore p n far = absurd n
   node_ring depth error p n far = absurd n
-  node_ring (Limit d) adopt p n far = absurd (omega (arith, n.3.1))
-  node_ring (Limit d) root p c far = absurd (omega (arith, c.1))
+  node_ring (Some d) adopt p n far = absurd (omega (arith, n.3.1))
+  node_ring (Some d) root p c far = absurd (omega (arith, c.1))
   node_ring None root p c far = path_ring p c far
   node_ring None adopt p n far =
       let a = n.0 in

@@ -1,5 +1,5 @@
 -- Each row ends a regular path, an orphan path or a path that begins with an entry; so no row is left over under root, nor under adopt, where sentence 8 refuses a board with rows and no start row. Assumes nothing.
-use Rattle.std.specs.Prelude.{◌≡◌, ◌⊎◌, Bool, ◌&&◌, ◌||◌, ℕ, zero, suc, ◌<◌, get_or}
+use Rattle.std.specs.Prelude.{◌≡◌, ◌⊎◌, Bool, ◌&&◌, ◌||◌, ℕ, zero, suc, ◌<◌, get_or, None}
 use Rattle.std.proofs.Math.Path.{refl, sym, ap, subst}
 use Rattle.std.proofs.Common.{◌∙◌, arith}
 use Rattle.std.proofs.Math.Logic.{inl, inr, ⊎_elim}
@@ -8,7 +8,6 @@ use mathlib.Core.List.{List, [], ◌∷◌, map}
 use Rattle.std.proofs.Math.Dec.{T, not_T}
 use Rattle.std.proofs.Math.ListN.{length}
 use Rattle.rows.specs.declared.Row.{Row}
-use Rattle.options.specs.declared.Depth.TheVariants.{None}
 use Rattle.lists.specs.Lists.{◌∈◌}
 use Rattle.lists.specs.MemberLaws.{filter_in, map_out}
 use Rattle.paths.specs.Forest.{memb}

@@ -1,9 +1,8 @@
 -- Small boards on which slips of the bodies show, with islands and without, by computation of the definitions. Assumes nothing.
-use Rattle.std.specs.Prelude.{◌≡◌, refl, Bool, true, false, List, [], ◌∷◌, map, pos}
+use Rattle.std.specs.Prelude.{◌≡◌, refl, Bool, true, false, List, [], ◌∷◌, map, pos, None, Some}
 use Rattle.rows.specs.declared.Row.{Row}
 use Rattle.image.specs.declared.Body.{Body}
 use Rattle.image.specs.Sample.{printed}
-use Rattle.options.specs.declared.Depth.TheVariants.{None, Limit}
 use Rattle.options.specs.Options.{orphan_of, level_limit}
 use Rattle.lists.specs.Lists.{sort, insert}
 use Rattle.forest.specs.Nodes.{sum_below}
@@ -57,7 +56,7 @@ pub record GearCases : Type 0 where
       ∷ []
   pub ignored : bodies gears parent_zero None ignore ≡ printed 2 0 1 1 false false 10 1 ∷ printed 1 1 2 1 false false 20 5 ∷ []
   -- a depth makes no entry
-  pub with_a_depth : nodes gears parent_zero (Limit (pos 9)) root ≡ (1 ∷ []) ∷ (1 ∷ 5 ∷ []) ∷ []
+  pub with_a_depth : nodes gears parent_zero (Some (pos 9)) root ≡ (1 ∷ []) ∷ (1 ∷ 5 ∷ []) ∷ []
   -- the entry's minutes are 0
   pub totals : running_totals (with_entries gears parent_zero None root) (nodes gears parent_zero None root) ≡ pos 0 ∷ pos 5 ∷ pos 6 ∷ pos 6 ∷ pos 9 ∷ pos 13 ∷ pos 15 ∷ []
   pub left_none : left_of gears parent_zero None root ≡ 0

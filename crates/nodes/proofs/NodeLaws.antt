@@ -1,6 +1,6 @@
 -- The list of nodes holds the nodes, each once, in the order of the papers, and no other list does; so it is with the entries. It is also strictly increasing in one dictionary order, so
 -- the interval facts hold of all nodes, under every orphan choice and at every depth. Assumes nothing.
-use Rattle.std.specs.Prelude.{◌≡◌, ◌⊎◌, ◌≢◌, ◌↔◌, Bool, get_or}
+use Rattle.std.specs.Prelude.{◌≡◌, ◌⊎◌, ◌≢◌, ◌↔◌, Bool, get_or, None, Some}
 use Rattle.std.proofs.Math.Path.{refl, subst}
 use Rattle.std.proofs.Common.{sym, ap, ◌∙◌}
 use Rattle.std.proofs.Math.Logic.{inl, inr, ⊎_elim}
@@ -10,8 +10,7 @@ use Prim.Native.Nat.{ℕ, suc, ◌+◌, ◌≤◌, ◌<◌}
 use native.Mathlib.Omega.{arith}
 use Rattle.std.proofs.Math.ListN.{length}
 use Rattle.rows.specs.declared.Row.{Row}
-use Rattle.options.specs.declared.Depth.{Depth}
-use Rattle.options.specs.declared.Depth.TheVariants.{None, Limit}
+use Rattle.options.specs.Options.{Depth}
 use Rattle.lists.specs.Lists.{◌∈◌, Increasing}
 use Rattle.lists.specs.MemberLaws.{append_out, append_left, append_right, get_or_in, map_out, increasing_append, increasing_filter, increasing_weaken, increasing_distinct, increasing_unique}
 use Rattle.forest.proofs.BeginningLaws.{before_asym}
@@ -36,9 +35,9 @@ module _ (R : List Row) (start : Row → Bool) where
   entries_joining depth ignore = refl
   entries_joining depth error = refl
   entries_joining None adopt = entries_entered R start
-  entries_joining (Limit d) adopt = refl
+  entries_joining (Some d) adopt = refl
   entries_joining None root = entries_entered R start
-  entries_joining (Limit d) root = refl
+  entries_joining (Some d) root = refl
 
   -- and there are no others
   pub joining_unique : (depth : Depth) (o : Orphan) (es : List ℕ) → Joining R start depth o es → es ≡ entries_of R start depth o
@@ -46,15 +45,15 @@ module _ (R : List Row) (start : Row → Bool) where
   joining_unique depth ignore es j = j
   joining_unique depth error es j = j
   joining_unique None adopt es j = entered_unique R start es j
-  joining_unique (Limit d) adopt es j = j
+  joining_unique (Some d) adopt es j = j
   joining_unique None root es j = entered_unique R start es j
-  joining_unique (Limit d) root es j = j
+  joining_unique (Some d) root es j = j
 
   -- the listed paths that begin with an entry are the request's
   pub paths_are : (depth : Depth) (p : List ℕ) → (p ∈ without_depth depth (entry_paths R start)) ↔ AnyEntryPath R start (without_depth depth (entries R start)) p
   unfolding entry_paths
   paths_are None p = entry_paths_are R start (entries R start) p
-  paths_are (Limit d) p = ((λ m. absurd m), (λ c. absurd (omega (arith, c.1))))
+  paths_are (Some d) p = ((λ m. absurd m), (λ c. absurd (omega (arith, c.1))))
 
   islands_increasing : (lt : ℕ → ℕ → Type 0) → Increasing lt (orphan_rows R start None) → Increasing lt (islands R start)
   unfolding islands
@@ -66,7 +65,7 @@ module _ (R : List Row) (start : Row → Bool) where
   unfolding entry_paths
   paths_rise lt None far i =
       paths_increasing R lt (suc (length R) + length (entries R start)) far (islands R start) (suc (length R)) (entries R start) (omega arith) (omega arith) (islands_increasing lt i)
-  paths_rise lt (Limit d) far i = tt
+  paths_rise lt (Some d) far i = tt
 
   module _ (depth : Depth) where
     -- the listed entry nodes are the request's

@@ -1,10 +1,9 @@
 -- A node without its last row is a node: for no depth under every orphan choice, and for any depth with no orphan nodes. Assumes nothing.
-use Rattle.std.specs.Prelude.{◌≡◌, refl, ◌⊎◌, Bool, List, [], ◌∷◌, ℕ, zero, suc, ◌+◌, ◌-◌, ◌≤◌, ◌<◌, pos, negsuc, length, get_or}
+use Rattle.std.specs.Prelude.{◌≡◌, refl, ◌⊎◌, Bool, List, [], ◌∷◌, ℕ, zero, suc, ◌+◌, ◌-◌, ◌≤◌, ◌<◌, pos, negsuc, length, get_or, None, Some}
 use Rattle.std.proofs.Common.{sym, ap, subst, ◌∙◌, inl, inr, ⊎_elim, arith}
 use Rattle.std.proofs.Math.Decide.{dec_lt}
 use Rattle.rows.specs.declared.Row.{Row}
-use Rattle.options.specs.declared.Depth.{Depth}
-use Rattle.options.specs.declared.Depth.TheVariants.{None, Limit}
+use Rattle.options.specs.Options.{Depth}
 use Rattle.forest.proofs.ForestLaws.{Closed}
 use Rattle.forest.proofs.BeginningLaws.{init_length, init_at}
 use Rattle.paths.specs.Rows.{num, par, RowOf}
@@ -45,16 +44,16 @@ entry_init num par In e p h c = record {
 
 within_shorter : (depth : Depth) (p q : List ℕ) → length q ≤ length p → Within depth p → Within depth q
 within_shorter None p q h w = tt
-within_shorter (Limit (pos d)) p q h w = omega arith
-within_shorter (Limit (negsuc d)) p q h w = w
+within_shorter (Some (pos d)) p q h w = omega arith
+within_shorter (Some (negsuc d)) p q h w = w
 
 -- a depth stands only where there are no orphan nodes: elsewhere refusal 7 applies
 abbrev pub Allowed : Depth → Orphan → Type 0
 Allowed None o = Unit {0}
-Allowed (Limit d) ignore = Unit {0}
-Allowed (Limit d) error = Unit {0}
-Allowed (Limit d) adopt = ⊥
-Allowed (Limit d) root = ⊥
+Allowed (Some d) ignore = Unit {0}
+Allowed (Some d) error = Unit {0}
+Allowed (Some d) adopt = ⊥
+Allowed (Some d) root = ⊥
 
 module _ (R : List Row) (start : Row → Bool) where
   pub regular_init : (depth : Depth) (p : List ℕ) → 1 < length p → Regular R start depth p → Regular R start depth (init p)
@@ -109,10 +108,10 @@ module _ (R : List Row) (start : Row → Bool) where
     node_init depth error ok p h (inl (inr n)) = absurd n
     node_init depth ignore ok p h (inr n) = absurd n
     node_init depth error ok p h (inr n) = absurd n
-    node_init (Limit d) adopt ok p h (inl (inr n)) = absurd ok
-    node_init (Limit d) root ok p h (inl (inr n)) = absurd ok
-    node_init (Limit d) adopt ok p h (inr n) = absurd ok
-    node_init (Limit d) root ok p h (inr n) = absurd ok
+    node_init (Some d) adopt ok p h (inl (inr n)) = absurd ok
+    node_init (Some d) root ok p h (inl (inr n)) = absurd ok
+    node_init (Some d) adopt ok p h (inr n) = absurd ok
+    node_init (Some d) root ok p h (inr n) = absurd ok
     node_init None root ok p h (inl (inr c)) = inl (inr (orphan_init p h c))
     node_init None root ok p h (inr c) = inr (entered_init p h c)
     node_init None adopt ok p h (inl (inr n)) = ⊎_elim (λ c. inl (inl c)) (λ c. inl (inr c)) (adopted_init (OrphanPath R start None) orphan_init n.0 p n.1 n.3.some n.2 n.3 n.4)

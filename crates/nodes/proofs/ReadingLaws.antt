@@ -1,7 +1,7 @@
 -- Ranks as an order of the nodes. Assumes nothing.
 use Rattle.std.specs.Prelude.{◌↔◌, Bool, List, ℕ, ◌<◌}
 use Rattle.rows.specs.declared.Row.{Row}
-use Rattle.options.specs.declared.Depth.{Depth}
+use Rattle.options.specs.Options.{Depth}
 use Rattle.forest.proofs.ForestLaws as forest
 use Rattle.paths.specs.Paths.{Orphan}
 use Rattle.nodes.specs.Nodes.{Node, NodeBefore, entries_of, nodes}

@@ -1,5 +1,5 @@
 -- The tests of refusals 8, 11 and 12 in the words of paths, islands and nodes, and what a build that no sentence refuses has. Assumes nothing.
-use Rattle.std.specs.Prelude.{◌≡◌, ◌≢◌, ◌↔◌, Bool, ◌||◌, List, [], ◌∷◌, map, ℕ, ◌<◌, eqb, length, get_or}
+use Rattle.std.specs.Prelude.{◌≡◌, ◌≢◌, ◌↔◌, Bool, ◌||◌, List, [], ◌∷◌, map, ℕ, ◌<◌, eqb, length, get_or, None}
 use Rattle.std.proofs.Math.Path.{refl, subst}
 use Rattle.std.proofs.Common.{sym, ap, ap₂, inl, arith, eqb→eq, ltb→lt, lt→ltb}
 use Rattle.std.proofs.Math.Bool.{true, false, not}
@@ -7,9 +7,8 @@ use Rattle.std.proofs.Math.Decide.{dec_lt}
 use Rattle.std.proofs.Math.Dec.{T, not_T, eqb_refl}
 use Rattle.rows.specs.declared.Row.{Row}
 use Rattle.image.specs.declared.Body.{Body}
-use Rattle.options.specs.declared.Depth.{Depth}
+use Rattle.options.specs.Options.{Depth}
 use Rattle.options.specs.Options.{orphan_of, multi_of, cycle_of}
-use Rattle.options.specs.declared.Depth.TheVariants.{None}
 use Rattle.lists.specs.Lists.{◌∈◌, filter}
 use Rattle.lists.specs.MemberLaws.{eq→eqb, two_places, other_place, or_left, or_right, is_true, map_out, filter_in}
 use Rattle.lists.specs.ChoiceLaws.{cond_none}

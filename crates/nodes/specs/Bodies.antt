@@ -1,7 +1,7 @@
 -- Paper 01, "Paths", "Index image" and "What demand 3 compares": what the index says of each node, running totals, rows left over. Assumes nothing: these are definitions.
 use Rattle.std.specs.Prelude.{Bool, true, false, not, List, ◌++◌, map, ℕ, ℤ, pos, length, drop}
 use Rattle.rows.specs.declared.Row.{Row}
-use Rattle.options.specs.declared.Depth.{Depth}
+use Rattle.options.specs.Options.{Depth}
 use Rattle.image.specs.declared.Body.{Body}
 use Rattle.lists.specs.Lists.{filter, numbers, totals_from}
 pub use Rattle.forest.specs.Nodes.{begins, same_path, rank_from, rank_of, node_at, tree_size, parent_rank, root_rank}

@@ -1,9 +1,8 @@
 -- The nodes of a build and their order: paper 01, "Paths", with the entries of request 2.3 of paper 02, in their words; then as executable lists, and beside each the law of NodeLaws that says what it
 -- holds. Assumes nothing: these are definitions.
-use Rattle.std.specs.Prelude.{◌≡◌, ◌⊎◌, Bool, List, [], ◌∷◌, ◌++◌, ℕ}
+use Rattle.std.specs.Prelude.{◌≡◌, ◌⊎◌, Bool, List, [], ◌∷◌, ◌++◌, ℕ, None, Some}
 use Rattle.rows.specs.declared.Row.{Row}
-use Rattle.options.specs.declared.Depth.{Depth}
-use Rattle.options.specs.declared.Depth.TheVariants.{None, Limit}
+use Rattle.options.specs.Options.{Depth}
 use Rattle.paths.specs.Siblings.{Sibling}
 use Rattle.paths.specs.Paths.{Orphan, ignore, error, adopt, root, Before, LastStart, Regular, OrphanNode, RowNode}
 use Rattle.paths.specs.Nodes.{adopted, starts, row_nodes}
@@ -13,7 +12,7 @@ use Rattle.islands.specs.Entries.{entries, entry_paths}
 -- a list where there is no depth, none where there is one
 abbrev pub without_depth : {A : Type 0} → Depth → List A → List A
 without_depth None l = l
-without_depth (Limit d) l = []
+without_depth (Some d) l = []
 
 module _ (R : List Row) (start : Row → Bool) where
   -- es are the rows whose numerals the entries take, in the order made: "Under adopt and root", and with no depth, as sentence 7 refuses one there; else there are none
@@ -21,9 +20,9 @@ module _ (R : List Row) (start : Row → Bool) where
   Joining depth ignore es = es ≡ []
   Joining depth error es = es ≡ []
   Joining None adopt es = Entered R start es
-  Joining (Limit d) adopt es = es ≡ []
+  Joining (Some d) adopt es = es ≡ []
   Joining None root es = Entered R start es
-  Joining (Limit d) root es = es ≡ []
+  Joining (Some d) root es = es ≡ []
 
   module _ (es : List ℕ) where
     -- the paths that begin with an entry, "as roots or under the last root"

@@ -1,7 +1,7 @@
 -- What a build over all paths makes. Assumes nothing: this is a definition.
 use Rattle.std.specs.Prelude.{Bool, List}
 use Rattle.rows.specs.declared.Row.{Row}
-use Rattle.options.specs.declared.Depth.{Depth}
+use Rattle.options.specs.Options.{Depth}
 use Rattle.built.specs.OutcomeLayer.{Outcome}
 use Rattle.paths.specs.Paths.{Orphan}
 use Rattle.nodes.specs.Nodes.{with_entries, nodes}

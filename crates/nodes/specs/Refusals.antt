@@ -1,9 +1,8 @@
 -- Paper 01, "Refusals in checking order", sentences 6 to 12, with islands in 8 as request 2.3 of paper 02 has it. The tests on lists are in the words of Paths and Islands in RefusalLaws (`some_top`, `some_island`, `no_start`, `some_unreached`).
 -- Assumes nothing: these are definitions.
-use Rattle.std.specs.Prelude.{Bool, true, false, cond, not, ◌&&◌, ◌||◌, List, [], ◌∷◌, ℕ, zero, suc, eqb, ltb, length}
+use Rattle.std.specs.Prelude.{Bool, true, false, cond, not, ◌&&◌, ◌||◌, List, [], ◌∷◌, ℕ, zero, suc, eqb, ltb, length, None, Some}
 use Rattle.rows.specs.declared.Row.{Row}
-use Rattle.options.specs.declared.Depth.{Depth}
-use Rattle.options.specs.declared.Depth.TheVariants.{None, Limit}
+use Rattle.options.specs.Options.{Depth}
 use Rattle.options.specs.Options.{orphan_of, multi_of, cycle_of}
 use Rattle.image.specs.declared.Body.{Body}
 use Rattle.built.specs.Room.{refusal9}
@@ -22,7 +21,7 @@ orphan_choice (suc (suc (suc k))) = root
 
 abbrev pub given : Depth → Bool
 given None = false
-given (Limit d) = true
+given (Some d) = true
 
 abbrev pub is_empty : List ℕ → Bool
 is_empty [] = true

@@ -1,7 +1,6 @@
 // The listing program: reads rows from standard input, builds with code 3 and prints one line for each node.
 #![tactic(auto)]
 
-use options::Depth;
 use request::Start;
 use std::io;
 
@@ -19,14 +18,14 @@ fn main(rt: HostRuntime) -> io::Result<()> {
     let built = build::build(
         board,
         3,
-        Depth::None,
+        None,
         Start::ParentZero,
         &unread,
         &mut index,
         &mut totals,
     );
-    if built.refusal != 0 {
-        return streams::print_refusal(&mut out, built.refusal);
+    match built {
+        Ok(counts) => streams::print_listing(&mut out, &index, &totals, counts.nodes),
+        Err(refusal) => streams::print_refusal(&mut out, refusal.number()),
     }
-    streams::print_listing(&mut out, &index, &totals, built.nodes)
 }

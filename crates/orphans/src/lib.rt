@@ -10,10 +10,7 @@ fn is_outside(table: &[u32], reached: &[u32], p: u32) -> bool
     ensures { result ≡ outside_at (row_column table.now) reached.now p }
 {
     let x = table::row(table, p) as usize;
-    if x == 0 {
-        return lists::get(reached, 0) == 0;
-    }
-    lists::get(reached, x - 1) == 0
+    lists::get(reached, x.saturating_sub(1)) == 0
 }
 
 // No row has a first child.
@@ -22,10 +19,8 @@ fn clear_children(table: &mut [u32])
     ensures { ChildrenCleared table.old table.new }
 {
     let n = table::rows(table) as u32;
-    let mut p = 0;
-    while p < n {
+    for p in 0..n {
         table::set_child(table, p, n);
-        p += 1;
     }
 }
 
@@ -55,9 +50,7 @@ fn link_rows(table: &mut [u32], reached: &[u32])
     requires { length (row_column table.old) ≤ 1024 }
     ensures { (t : List ℕ) → LinkedFrom reached.now t table.old (length (row_column table.old)) → LinkedFrom reached.now t table.new 0 }
 {
-    let mut k = table::rows(table) as u32;
-    while 0 < k {
-        k -= 1;
+    for k in (0..table::rows(table) as u32).rev() {
         link_row(k, table, reached);
     }
 }
@@ -68,12 +61,10 @@ fn share_children(table: &mut [u32])
     ensures { ChildrenShared table.old table.new }
 {
     let n = table::rows(table) as u32;
-    let mut p = 0;
-    while p < n {
+    for p in 0..n {
         let c = table::class(table, p);
         let first = table::child(table, c);
         table::set_child(table, p, first);
-        p += 1;
     }
 }
 
@@ -88,14 +79,13 @@ pub fn link_outside(table: &mut [u32], reached: &[u32])
 }
 
 // The last flagged position, or the number of rows where none is.
+#[tactic(auto, unfolding(crate::specs::OutsideLayer::last_flag), using(crate::specs::OutsideLaws::last_here))]
 pub fn last_flag(table: &[u32]) -> u32
     requires { length (flag_column table.now) ≤ 1024 }
     ensures { result ≡ last_flag (flag_column table.now) }
 {
     let n = table::rows(table) as u32;
-    let mut k = n;
-    while 0 < k {
-        k -= 1;
+    for k in (0..n).rev() {
         if table::flag(table, k) == 1 {
             return k;
         }

@@ -2,7 +2,6 @@
 #![tactic(auto)]
 
 ghost use Rattle.std.specs.Prelude.{◌≡◌};
-ghost use Rattle.lists.specs.Choice.{bit};
 ghost use Rattle.packed.specs.LastWord.{level_of, closing_bit, orphan_bit, packed};
 
 // The level in a body's last word.
@@ -26,17 +25,9 @@ pub fn orphan_of(word: u32) -> bool
     (word >> 31) == 1
 }
 
-fn bit_of(flag: bool) -> u32
-    ensures { result ≡ bit flag }
-{
-    if flag { 1 } else { 0 }
-}
-
 // A body's last word.
 pub fn pack(level: u32, closing: bool, orphan: bool) -> u32
     ensures { result ≡ packed level closing orphan }
 {
-    let c = bit_of(closing);
-    let o = bit_of(orphan);
-    (o << 31) | ((c << 30) | (level & 65535))
+    (u32::from(orphan) << 31) | ((u32::from(closing) << 30) | (level & 65535))
 }

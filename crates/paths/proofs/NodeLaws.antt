@@ -1,13 +1,12 @@
 -- The list of the nodes that rows make holds the regular paths and the orphan nodes, and is strictly increasing in one dictionary order, that of sibling order with the rows of U after
 -- all others, under every orphan choice and at every depth. Assumes nothing.
-use Rattle.std.specs.Prelude.{◌≡◌, ◌⊎◌, ◌↔◌, Bool, ℕ, zero, suc, ◌<◌, pos, negsuc, length, get_or}
+use Rattle.std.specs.Prelude.{◌≡◌, ◌⊎◌, ◌↔◌, Bool, ℕ, zero, suc, ◌<◌, pos, negsuc, length, get_or, None, Some}
 use Rattle.std.proofs.Math.Path.{refl}
 use Rattle.std.proofs.Common.{sym, ap, subst, ◌∙◌, arith}
 use Rattle.std.proofs.Math.Logic.{inl, inr, ⊎_elim}
 use mathlib.Core.List.{List, [], ◌∷◌, ◌++◌, map}
 use Rattle.rows.specs.declared.Row.{Row}
-use Rattle.options.specs.declared.Depth.{Depth}
-use Rattle.options.specs.declared.Depth.TheVariants.{None, Limit}
+use Rattle.options.specs.Options.{Depth}
 use Rattle.options.specs.Options.{level_limit}
 use Rattle.lists.specs.Lists.{◌∈◌, Increasing}
 use Rattle.lists.specs.MemberLaws.{append_out, append_left, append_right, increasing_append, increasing_map, increasing_weaken, map_out, map_in}
@@ -65,8 +64,8 @@ adopted_increasing lt (z ∷ s) l i = increasing_map (Before lt) (Before lt) (λ
 
 pub within_one : (depth : Depth) (p : List ℕ) (a : ℕ) → 0 < length p → Within depth p → Within depth (a ∷ [])
 within_one None p a h w = tt
-within_one (Limit (pos d)) p a h w = omega arith
-within_one (Limit (negsuc d)) p a h w = w
+within_one (Some (pos d)) p a h w = omega arith
+within_one (Some (negsuc d)) p a h w = w
 
 pub rows_all : (P : ℕ → Type 0) (p : List ℕ) → ((i : ℕ) → i < length p → P (get_or p i 0)) → (x : ℕ) → x ∈ p → P x
 rows_all P [] h x k = absurd k

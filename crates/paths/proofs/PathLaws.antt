@@ -1,5 +1,5 @@
 -- The executable lists of Nodes hold what Paths says in the paper's words: start rows, regular paths, U, top orphans, orphan paths. Assumes nothing.
-use Rattle.std.specs.Prelude.{◌≡◌, ◌≢◌, ◌↔◌, Bool, T, eqb, pos, negsuc, length, get_or}
+use Rattle.std.specs.Prelude.{◌≡◌, ◌≢◌, ◌↔◌, Bool, T, eqb, pos, negsuc, length, get_or, None, Some}
 use Rattle.std.proofs.Common.{sym, subst, arith, eqb→eq}
 use Rattle.std.proofs.Math.Logic.{inl, inr, ⊎_elim}
 use Rattle.std.proofs.Math.Bool.{not}
@@ -7,8 +7,7 @@ use mathlib.Core.List.{List, [], map}
 use Prim.Native.Nat.{ℕ, zero, suc, ◌≤◌, ◌<◌}
 use Rattle.std.proofs.Math.Dec.{T_not, not_T}
 use Rattle.rows.specs.declared.Row.{Row}
-use Rattle.options.specs.declared.Depth.{Depth}
-use Rattle.options.specs.declared.Depth.TheVariants.{None, Limit}
+use Rattle.options.specs.Options.{Depth}
 use Rattle.options.specs.Options.{level_limit}
 use Rattle.lists.specs.Lists.{◌∈◌, Increasing}
 use Rattle.lists.specs.MemberLaws.{eq→eqb, or_out, or_left, or_right, map_in, map_out, filter_out, filter_in, filter_short, increasing_filter, increasing_distinct}
@@ -59,14 +58,14 @@ module _ (num par : ℕ → ℕ) (In First : ℕ → Type 0) (pool sibs : List �
 limit_within : (depth : Depth) (rows : ℕ) (p : List ℕ) → length p ≤ suc rows → Within depth p → length p ≤ level_limit depth rows
 unfolding level_limit
 limit_within None rows p h w = h
-limit_within (Limit (pos d)) rows p h w = omega arith
-limit_within (Limit (negsuc d)) rows p h w = absurd w
+limit_within (Some (pos d)) rows p h w = omega arith
+limit_within (Some (negsuc d)) rows p h w = absurd w
 
 within_limit : (depth : Depth) (rows : ℕ) (p : List ℕ) → 0 < length p → length p ≤ level_limit depth rows → Within depth p
 unfolding level_limit
 within_limit None rows p h w = tt
-within_limit (Limit (pos d)) rows p h w = omega arith
-within_limit (Limit (negsuc d)) rows p h w = absurd (omega arith)
+within_limit (Some (pos d)) rows p h w = omega arith
+within_limit (Some (negsuc d)) rows p h w = absurd (omega arith)
 
 module _ (R : List Row) where
   module _ (start : Row → Bool) where

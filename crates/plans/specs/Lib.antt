@@ -1,2 +1,3 @@
 pub mod PlanLayer
 pub mod PlanLaws
+pub mod ToldLayer

@@ -6,7 +6,19 @@ use Rattle.rows.specs.declared.Call.{Call}
 use Rattle.rows.specs.declared.Call.TheVariants.{Add, Withdraw, Remark, Undo, Redo}
 use Rattle.rows.specs.Days.{first_after_last}
 use Rattle.rows.specs.Journal.{blank, no_entry, no_row, remarked}
-use Rattle.plans.specs.declared.Plan.{Plan}
+
+-- what a call does: the number that refuses it, 0 for none; how many places of the tape move up by one; the place where the inverse of its
+-- entry goes; the kept and undone numbers afterwards; and its entry. Where that is `taped` it is the one found at the place, else `entry`;
+-- of the row of one that `remarks` the minutes alone count
+pub record Plan : Type 0 where
+  pub refusal : ℕ
+  pub moves : ℕ
+  pub place : ℕ
+  pub kept : ℕ
+  pub undone : ℕ
+  pub taped : Bool
+  pub remarks : Bool
+  pub entry : Entry
 
 -- a number of entries, at most 256
 unfoldable pub at_most_256 : ℕ → ℕ

@@ -2,230 +2,167 @@
 #![tactic(auto)]
 
 ghost use Rattle.std.specs.Prelude.{◌≡◌, cond, ◌+◌, ◌-◌, ◌≤◌, eqb, leb, ltb};
+ghost use Rattle.refusal.specs.Numbers.{number, refusal_of};
 ghost use Rattle.rows.specs.declared.Call.TheVariants.{Add, Withdraw, Remark, Undo, Redo};
 ghost use Rattle.rows.specs.Days.{first_after_last};
 ghost use Rattle.rows.specs.Journal.{no_row};
 ghost use Rattle.rows.specs.SoundLayer.{sound_by};
 ghost use Rattle.plans.specs.PlanLayer.{at_most_256, room_after, moves_for, place_named, entry_chosen, row_chosen, change_plan, plan_of, judged_plan};
+ghost use Rattle.plans.specs.ToldLayer.{Tells};
 
-use rows::{Call, Entry, Row};
+use refusal::Refusal;
+use rows::{Call, Entry, Kind, Row};
 
-// What a call does: the number that refuses it, 0 for none; how many places of the tape move up by one; the place where the inverse of
-// its entry goes; the kept and undone numbers afterwards; and its entry. Where that is `taped` it is the one found at the place, else
-// `entry`; of the row of one that `remarks` the minutes alone count.
-#[derive(Clone, Copy)]
+// What a call does to the tape where nothing refuses it: how many places move up by one; the place where the inverse of its entry goes;
+// and the kept and undone numbers afterwards.
+#[derive(Clone, Copy, Debug, PartialEq, Eq)]
 pub struct Plan {
-    pub refusal: u32,
     pub moves: usize,
     pub place: usize,
     pub kept: usize,
     pub undone: usize,
-    pub taped: bool,
-    pub remarks: bool,
-    pub entry: Entry,
 }
 
 // A number of entries, at most 256.
+#[tactic(auto, unfolding(crate::specs::PlanLayer::at_most_256))]
 pub fn at_most_256(n: usize) -> usize
     ensures { result ≡ at_most_256 n }
 {
-    if 256 < n {
-        return 256;
-    }
-    n
+    n.min(256)
 }
 
-// One less, where there is one.
-pub fn one_less(n: usize) -> usize
-    ensures { result ≡ n - 1 }
+// A row that can't be added.
+fn add_refusal(count: usize, row: Row) -> Result<(), Refusal>
+    ensures { refusal_of result ≡ cond (eqb row.numeral 0) 2 (cond (first_after_last row.days) 20 (cond (leb 1024 count) 3 0)) }
 {
-    if n == 0 {
-        return 0;
-    }
-    n - 1
-}
-
-// Refusals 2, 20 and 3.
-fn add_refusal(count: usize, row: Row) -> u32
-    ensures { result ≡ cond (eqb row.numeral 0) 2 (cond (first_after_last row.days) 20 (cond (leb 1024 count) 3 0)) }
-{
-    let days = row.days;
-    let first = days.first;
-    let last = days.last;
     if row.numeral == 0 {
-        return 2;
+        return Err(Refusal::NumeralZero);
     }
-    if last < first {
-        return 20;
+    if row.days.last < row.days.first {
+        return Err(Refusal::NoDays);
     }
     if 1024 <= count {
-        return 3;
+        return Err(Refusal::FullBoard);
     }
-    0
+    Ok(())
 }
 
-// Refusal 4.
-fn row_refusal(count: usize, k: usize) -> u32
-    ensures { result ≡ cond (no_row count k) 4 0 }
+// A row number that isn't there.
+fn row_refusal(count: usize, k: usize) -> Result<(), Refusal>
+    ensures { refusal_of result ≡ cond (no_row count k) 4 0 }
 {
-    if k == 0 {
-        return 4;
+    if k == 0 || count < k {
+        return Err(Refusal::NoSuchRow);
     }
-    if count < k {
-        return 4;
-    }
-    0
+    Ok(())
 }
 
-// Refusal 5, or 17: there is no step to undo, or to redo.
-fn step_refusal(steps: usize, number: u32) -> u32
-    ensures { result ≡ cond (eqb steps 0) number 0 }
+// No step to undo, or to redo.
+fn step_refusal(steps: usize, none: Refusal) -> Result<(), Refusal>
+    ensures { refusal_of result ≡ cond (eqb steps 0) (number none) 0 }
 {
-    if 0 < steps {
-        return 0;
+    if steps == 0 {
+        return Err(none);
     }
-    number
-}
-
-// Refusal 1, else the other.
-fn first_refusal(sound: bool, other: u32) -> u32
-    ensures { result ≡ cond sound other 1 }
-{
-    if sound {
-        return other;
-    }
-    1
+    Ok(())
 }
 
 // The place for one more kept entry.
+#[tactic(auto, unfolding(crate::specs::PlanLayer::room_after))]
 fn room_after(kept: usize) -> usize
     ensures { result ≡ room_after kept }
 {
-    if kept < 256 {
-        return kept;
-    }
-    255
+    kept.min(255)
 }
 
 // How many places of the tape move up for it; those of the undone entries move along.
+#[tactic(auto, unfolding(crate::specs::PlanLayer::moves_for))]
 fn moves_for(kept: usize, along: usize) -> usize
     requires { along ≤ 256 }
     ensures { result ≡ moves_for kept along }
 {
-    if kept < 256 {
-        return 0;
-    }
-    255 + along
+    if kept < 256 { 0 } else { 255 + along }
 }
 
 // The undone number after one more undo.
 fn one_more_undone(undone: usize) -> usize
     ensures { result ≡ cond (ltb undone 256) (undone + 1) 256 }
 {
-    if undone < 256 {
-        return undone + 1;
-    }
-    256
+    undone.min(255) + 1
 }
 
 // A place among the rows, as an entry has it.
+#[tactic(auto, unfolding(crate::specs::PlanLayer::place_named))]
 fn place_named(n: usize) -> u32
     ensures { result ≡ place_named n }
 {
-    if 1024 < n {
-        return 0;
-    }
-    n as u32
+    if n <= 1024 { n as u32 } else { 0 }
 }
 
-// An add, withdraw or remark: it keeps a step and forgets those undone.
-fn change_plan(refusal: u32, kept: usize, remarks: bool, entry: Entry) -> Plan
-    ensures { result ≡ change_plan refusal kept remarks entry }
+// The place of row number k, as an entry has it.
+fn row_place(k: usize) -> u32
+    ensures { result ≡ place_named (k - 1) }
+{
+    place_named(k.saturating_sub(1))
+}
+
+// An add, withdraw or remark that nothing refuses: it keeps a step and forgets those undone.
+#[tactic(auto, using(crate::specs::PlanLaws::room_less))]
+fn change_plan(kept: usize) -> Plan
+    ensures { result ≡ record { moves = moves_for kept 0; place = room_after kept; kept = room_after kept + 1; undone = 0 } }
 {
     let place = room_after(kept);
     Plan {
-        refusal: refusal,
         moves: moves_for(kept, 0),
-        place: place,
+        place,
         kept: place + 1,
         undone: 0,
-        taped: false,
-        remarks: remarks,
-        entry: entry,
     }
 }
 
-fn add_plan(count: usize, kept: usize, row: Row) -> Plan
-    ensures { result ≡ plan_of (Add row) count kept 0 }
+#[tactic(auto, unfolding(crate::specs::PlanLayer::plan_of))]
+fn undo_plan(kept: usize, undone: usize) -> Result<Plan, Refusal>
+    ensures { Tells result (plan_of Undo 0 kept undone) }
 {
-    let entry = rows::entry_of(1, place_named(count), row);
-    change_plan(add_refusal(count, row), kept, false, entry)
-}
-
-fn withdraw_plan(count: usize, kept: usize, k: usize) -> Plan
-    ensures { result ≡ plan_of (Withdraw k) count kept 0 }
-{
-    let entry = rows::entry_of(0, place_named(one_less(k)), rows::blank_row());
-    change_plan(row_refusal(count, k), kept, false, entry)
-}
-
-fn remark_plan(count: usize, kept: usize, k: usize, minutes: i32) -> Plan
-    ensures { result ≡ plan_of (Remark k minutes) count kept 0 }
-{
-    let entry = rows::entry_of(
-        2,
-        place_named(one_less(k)),
-        rows::with_minutes(rows::blank_row(), minutes),
-    );
-    change_plan(row_refusal(count, k), kept, true, entry)
-}
-
-fn undo_plan(kept: usize, undone: usize) -> Plan
-    ensures { result ≡ plan_of Undo 0 kept undone }
-{
-    let place = one_less(kept);
-    Plan {
-        refusal: step_refusal(kept, 5),
+    step_refusal(kept, Refusal::NothingKept)?;
+    let place = kept.saturating_sub(1);
+    Ok(Plan {
         moves: 0,
-        place: place,
+        place,
         kept: place,
         undone: one_more_undone(undone),
-        taped: true,
-        remarks: false,
-        entry: rows::entry_of(0, 0, rows::blank_row()),
-    }
+    })
 }
 
-fn redo_plan(kept: usize, undone: usize) -> Plan
-    ensures { result ≡ plan_of Redo 0 kept undone }
+#[tactic(auto, unfolding(crate::specs::PlanLayer::plan_of), using(crate::specs::PlanLaws::room_less, crate::specs::PlanLaws::at_most_le))]
+fn redo_plan(kept: usize, undone: usize) -> Result<Plan, Refusal>
+    ensures { Tells result (plan_of Redo 0 kept undone) }
 {
+    step_refusal(undone, Refusal::NothingUndone)?;
     let room = room_after(kept);
-    Plan {
-        refusal: step_refusal(undone, 17),
+    Ok(Plan {
         moves: moves_for(kept, at_most_256(undone)),
         place: room,
         kept: room + 1,
-        undone: one_less(undone),
-        taped: true,
-        remarks: false,
-        entry: rows::entry_of(0, 0, rows::blank_row()),
-    }
+        undone: undone.saturating_sub(1),
+    })
 }
 
 // What a call does on a board of so many rows, kept and undone steps.
-fn plan_of(call: Call, count: usize, kept: usize, undone: usize) -> Plan
-    ensures { result ≡ plan_of call count kept undone }
+#[tactic(auto, unfolding(crate::specs::PlanLayer::plan_of, crate::specs::PlanLayer::change_plan))]
+fn plan_of(call: Call, count: usize, kept: usize, undone: usize) -> Result<Plan, Refusal>
+    ensures { Tells result (plan_of call count kept undone) }
 {
     match call {
-        Call::Add(row) => add_plan(count, kept, row),
-        Call::Withdraw(k) => withdraw_plan(count, kept, k),
-        Call::Remark(k, minutes) => remark_plan(count, kept, k, minutes),
+        Call::Add(row) => add_refusal(count, row).map(|_| change_plan(kept)),
+        Call::Withdraw(k) | Call::Remark(k, _) => row_refusal(count, k).map(|_| change_plan(kept)),
         Call::Undo => undo_plan(kept, undone),
         Call::Redo => redo_plan(kept, undone),
     }
 }
 
-// The same, refused by 1 where the board isn't sound.
+// The same, refused where the board isn't sound.
+#[tactic(auto, unfolding(crate::specs::PlanLayer::judged_plan))]
 pub fn judged(
     call: Call,
     count: usize,
@@ -234,47 +171,38 @@ pub fn judged(
     numbered: bool,
     newest: Entry,
     next: Entry,
-) -> Plan
-    ensures { result ≡ judged_plan (sound_by count kept undone numbered newest next) (plan_of call count kept undone) }
+) -> Result<Plan, Refusal>
+    ensures { Tells result (judged_plan (sound_by count kept undone numbered newest next) (plan_of call count kept undone)) }
 {
-    let sound = rows::sound_by(count, kept, undone, numbered, newest, next);
-    let mut plan = plan_of(call, count, kept, undone);
-    plan.refusal = first_refusal(sound, plan.refusal);
-    plan
-}
-
-// Whether a board is sound: then a call isn't refused by 1. It is asked so because the compiler leaves `judged` a function of its own;
-// with the test inside it, `Board::sound` would be too large to be put into a build, which would copy the board once more.
-pub fn is_sound(
-    count: usize,
-    kept: usize,
-    undone: usize,
-    numbered: bool,
-    newest: Entry,
-    next: Entry,
-) -> bool
-    ensures { result ≡ sound_by count kept undone numbered newest next }
-{
-    let plan = judged(Call::Undo, count, kept, undone, numbered, newest, next);
-    plan.refusal != 1
-}
-
-// The entry that a call carries out.
-pub fn entry_chosen(taped: bool, stored: Entry, given: Entry) -> Entry
-    ensures { result ≡ entry_chosen taped stored given }
-{
-    if taped {
-        return stored;
+    if !rows::sound_by(count, kept, undone, numbered, newest, next) {
+        return Err(Refusal::UnsoundBoard);
     }
-    given
+    plan_of(call, count, kept, undone)
 }
 
-// Its row.
-pub fn row_chosen(remarks: bool, row: Row, old: Row) -> Row
-    ensures { result ≡ row_chosen remarks row old }
+// The entry that a call carries out on so many rows, `stored` being the one found on the tape.
+#[tactic(auto, unfolding(crate::specs::PlanLayer::plan_of, crate::specs::PlanLayer::change_plan, crate::specs::PlanLayer::entry_chosen))]
+pub fn entry_of(call: Call, count: usize, stored: Entry) -> Entry
+    ensures { result ≡ entry_chosen (plan_of call count 0 0).taped stored (plan_of call count 0 0).entry }
 {
-    if remarks {
-        return rows::with_minutes(old, row.minutes);
+    match call {
+        Call::Add(row) => rows::entry_of(Kind::PutIn as u32, place_named(count), row),
+        Call::Withdraw(k) => rows::entry_of(Kind::TakeOut as u32, row_place(k), rows::blank_row()),
+        Call::Remark(k, minutes) => {
+            let row = rows::with_minutes(rows::blank_row(), minutes);
+            rows::entry_of(Kind::Set as u32, row_place(k), row)
+        }
+        Call::Undo | Call::Redo => stored,
     }
-    row
+}
+
+// Its row, `old` being the one at its place: of a remark the minutes alone count.
+#[tactic(auto, unfolding(crate::specs::PlanLayer::plan_of, crate::specs::PlanLayer::change_plan, crate::specs::PlanLayer::row_chosen))]
+pub fn row_of(call: Call, row: Row, old: Row) -> Row
+    ensures { result ≡ row_chosen (plan_of call 0 0 0).remarks row old }
+{
+    match call {
+        Call::Remark(..) => rows::with_minutes(old, row.minutes),
+        _ => row,
+    }
 }

@@ -6,7 +6,7 @@ ghost use Rattle.image.specs.Layout.{bodies_end};
 ghost use Rattle.rank_filter.specs.Distances.{within};
 ghost use Rattle.rank_filter.specs.KeepLayer.{keeps_at};
 
-// Which ranks a list keeps.
+// Which ranks a list keeps. A value and no closure, since contracts say by it which ranks are listed.
 #[derive(Clone, Copy)]
 pub enum Keep {
     // Those whose level less a base level is within a lower and an upper limit.
@@ -19,11 +19,8 @@ pub enum Keep {
 fn is_within(level: u32, base: u32, lo: i32, hi: i32) -> bool
     ensures { result ≡ within lo hi (pos level -ℤ pos base) }
 {
-    let distance = level as i64 - base as i64;
-    if lo as i64 <= distance {
-        return distance <= hi as i64;
-    }
-    false
+    let distance = i64::from(level) - i64::from(base);
+    i64::from(lo) <= distance && distance <= i64::from(hi)
 }
 
 // Whether a rank is kept.

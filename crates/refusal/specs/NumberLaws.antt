@@ -1,8 +1,8 @@
 -- No refusal has the number 0, and no two have the same. Assumes nothing.
-use Rattle.std.specs.Prelude.{◌≤◌}
+use Rattle.std.specs.Prelude.{◌≤◌, ◌≢◌}
 use Rattle.std.proofs.Common.{arith}
 use Rattle.refusal.specs.declared.Refusal.{Refusal}
-use Rattle.refusal.specs.declared.Refusal.TheVariants.{UnsoundBoard, NumeralZero, FullBoard, NoSuchRow, NothingKept, UnknownCode, DepthWithOrphans, NoStartRow, TooManyNodes, ClosingNode, SharedNumeral, UnreachedRow, NoIndex, NoSuchRank, DamagedIndex, ListTooLong, NothingUndone, NotWholeLines, TooManyLines, NoDays, PartOfCall, UnknownCall, FewRefusalWords}
+use Rattle.refusal.specs.declared.Refusal.TheVariants.{UnsoundBoard, NumeralZero, FullBoard, NoSuchRow, NothingKept, UnknownCode, DepthWithOrphans, NoStartRow, TooManyNodes, ClosingNode, SharedNumeral, UnreachedRow, NoIndex, NoSuchRank, DamagedIndex, ListTooLong, NothingUndone, NotWholeLines, TooManyLines, NoDays}
 use Rattle.refusal.specs.Numbers.{number}
 
 pub number_some : (r : Refusal) → 1 ≤ number r
@@ -26,6 +26,6 @@ number_some NothingUndone = omega arith
 number_some NotWholeLines = omega arith
 number_some TooManyLines = omega arith
 number_some NoDays = omega arith
-number_some PartOfCall = omega arith
-number_some UnknownCall = omega arith
-number_some FewRefusalWords = omega arith
+
+pub number_not_0 : (r : Refusal) → number r ≢ 0
+number_not_0 r e = let some = number_some r in omega arith

@@ -1,7 +1,7 @@
 -- Papers 01 and 02: the number of each refusal; 0 stands for none. Assumes nothing: these are definitions.
 use Rattle.std.specs.Prelude.{ℕ, Result, Ok, Err}
 use Rattle.refusal.specs.declared.Refusal.{Refusal}
-use Rattle.refusal.specs.declared.Refusal.TheVariants.{UnsoundBoard, NumeralZero, FullBoard, NoSuchRow, NothingKept, UnknownCode, DepthWithOrphans, NoStartRow, TooManyNodes, ClosingNode, SharedNumeral, UnreachedRow, NoIndex, NoSuchRank, DamagedIndex, ListTooLong, NothingUndone, NotWholeLines, TooManyLines, NoDays, PartOfCall, UnknownCall, FewRefusalWords}
+use Rattle.refusal.specs.declared.Refusal.TheVariants.{UnsoundBoard, NumeralZero, FullBoard, NoSuchRow, NothingKept, UnknownCode, DepthWithOrphans, NoStartRow, TooManyNodes, ClosingNode, SharedNumeral, UnreachedRow, NoIndex, NoSuchRank, DamagedIndex, ListTooLong, NothingUndone, NotWholeLines, TooManyLines, NoDays}
 
 abbrev pub number : Refusal → ℕ
 number UnsoundBoard = 1
@@ -24,9 +24,6 @@ number NothingUndone = 17
 number NotWholeLines = 18
 number TooManyLines = 19
 number NoDays = 20
-number PartOfCall = 101
-number UnknownCall = 102
-number FewRefusalWords = 103
 
 -- the number of what a call is refused for, 0 where it isn't refused
 abbrev pub refusal_of : {A : Type 0} → Result A Refusal → ℕ

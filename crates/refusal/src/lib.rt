@@ -1,4 +1,4 @@
-// Why a call is refused: the reasons of the papers, each with its number and its words.
+// Why a call is refused: the reasons of the papers, each with its number. A replay of calls told by words has reasons of its own, in crate history.
 #![tactic(auto)]
 
 ghost use Rattle.std.specs.Prelude.{◌≡◌};
@@ -7,6 +7,7 @@ ghost use Rattle.refusal.specs.Numbers.{number};
 use std::error::Error;
 use std::fmt;
 
+// The numbers run from 1 without a gap, so that the compiler adds 1 and needs no table of them.
 #[derive(Clone, Copy, Debug, PartialEq, Eq, Hash)]
 pub enum Refusal {
     // The board isn't sound.
@@ -49,12 +50,6 @@ pub enum Refusal {
     TooManyLines = 19,
     // The first day of an added row, or of a window, is after its last.
     NoDays = 20,
-    // Replay: the words are no whole number of calls.
-    PartOfCall = 101,
-    // Replay: a call is of no known kind.
-    UnknownCall = 102,
-    // Replay: there is less than one word for each call's refusal number.
-    FewRefusalWords = 103,
 }
 
 impl Refusal {

@@ -1,5 +1,5 @@
 -- The tests before a walk are refusals 7, 8 and 9. Assumes nothing.
-use Rattle.std.specs.Prelude.{◌≡◌, refl, ◌⊎◌, Bool, cond, ◌&&◌, ◌||◌, List, ℕ, ◌+◌, ◌-◌, ◌*◌, ◌≤◌, ◌<◌, length, get_or}
+use Rattle.std.specs.Prelude.{◌≡◌, refl, ◌⊎◌, Bool, cond, ◌&&◌, ◌||◌, List, ℕ, ◌+◌, ◌-◌, ◌*◌, ◌≤◌, ◌<◌, length, get_or, None, Some}
 use Rattle.std.proofs.Math.Path.{sym, ap}
 use Rattle.std.proofs.Common.{ap₂, ◌∙◌, inl, inr, arith, eq-eqb, ne_eqb, lt-ltb, le-ltb, ltb-true, ltb-false}
 use Rattle.std.proofs.Math.Bool.{true, false, not, and-true, and-false}
@@ -7,8 +7,7 @@ use Rattle.std.proofs.Math.Decide.{dec_lt}
 use Rattle.std.proofs.Math.Dec.{eqb, ltb}
 use Rattle.lists.specs.Lists.{numbers, any}
 use Rattle.lists.specs.CountingLaws.{any_here, any_past}
-use Rattle.options.specs.declared.Depth.{Depth}
-use Rattle.options.specs.declared.Depth.TheVariants.{None, Limit}
+use Rattle.options.specs.Options.{Depth}
 use Rattle.built.specs.Room.{refusal9}
 use Rattle.nodes.specs.Refusals.{given, refusal7}
 use Rattle.table.specs.TableLayer.{row_column, flag_column}
@@ -18,7 +17,7 @@ use Rattle.refusals.specs.TestsLayer.{capacity_of, dated_capacity_of, start_at, 
 
 pub given_test : (depth : Depth) (orphan : ℕ) → refusal7 orphan depth ≡ false → 1 < orphan → depth ≡ None
 given_test None orphan e h = refl
-given_test (Limit d) orphan e h = let f = ap (λ (t : Bool). not t) (ne_eqb orphan 0 (λ z. absurd (omega arith))) in let z : ◌≡◌ {A = ℕ} 0 1 = cc in absurd (omega arith)
+given_test (Some d) orphan e h = let f = ap (λ (t : Bool). not t) (ne_eqb orphan 0 (λ z. absurd (omega arith))) in let z : ◌≡◌ {A = ℕ} 0 1 = cc in absurd (omega arith)
 
 -- ---- 9: what the slices hold
 

@@ -1,11 +1,10 @@
 -- What a build answers and what it leaves in its two slices, for every argument: paper 01, "Paths", "Index image" and refusals 1 and 6 to 12; islands as request 2.3 of paper 02 has them. Assumes nothing: these are definitions.
-use Rattle.std.specs.Prelude.{Bool, cond, List, ℕ, eqb, ℤ, pos, length, replicate}
+use Rattle.std.specs.Prelude.{Bool, cond, List, ℕ, eqb, ℤ, pos, length, replicate, None}
 use Rattle.lists.specs.Lists.{front}
 use Rattle.rows.specs.declared.Row.{Row}
 use Rattle.board.specs.declared.Board.{Board}
 use Rattle.board.specs.Edits.{rows_of, sound_of}
-use Rattle.options.specs.declared.Depth.{Depth}
-use Rattle.options.specs.declared.Depth.TheVariants.{None}
+use Rattle.options.specs.Options.{Depth}
 use Rattle.options.specs.Options.{orphan_of}
 use Rattle.image.specs.Layout.{image_words}
 use Rattle.paths.specs.Rows.{parent_zero, numeral_in}

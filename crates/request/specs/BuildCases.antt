@@ -1,10 +1,9 @@
 -- The build by default, run on rows: the listing of paper 01, a part whose parent isn't drawn yet, a gear train with no way in; beside the same rows by code 0. By computation of the definitions.
 -- Assumes nothing.
-use Rattle.std.specs.Prelude.{◌≡◌, refl, Bool, true, false, List, [], ◌∷◌, ℕ, pos}
+use Rattle.std.specs.Prelude.{◌≡◌, refl, Bool, true, false, List, [], ◌∷◌, ℕ, pos, None}
 use Rattle.lists.specs.Lists.{sort, insert}
 use Rattle.rows.specs.declared.Row.{Row}
-use Rattle.options.specs.declared.Depth.{Depth}
-use Rattle.options.specs.declared.Depth.TheVariants.{None}
+use Rattle.options.specs.Options.{Depth}
 use Rattle.options.specs.Options.{orphan_of, level_limit}
 use Rattle.image.specs.declared.Body.{Body}
 use Rattle.image.specs.Sample.{printed, listing}

@@ -1,6 +1,6 @@
 -- What a search among linked rows has found: definitions that contracts cite. The search stands in a table of rows: the queue in the column of parents, the stamps by class in the column of flags.
 -- Assumes nothing: these are definitions.
-use Rattle.std.specs.Prelude.{◌≡◌, ◌≢◌, Bool, true, false, List, ℕ, suc, ◌≤◌, ◌<◌, length, get_or}
+use Rattle.std.specs.Prelude.{◌≡◌, ◌≢◌, Bool, true, false, List, ℕ, suc, ◌≤◌, ◌<◌, length, get_or, Option, MatchOption}
 use Rattle.lists.specs.Lists.{◌∈◌}
 use Rattle.links.specs.LinksLayer.{NextChain}
 use Rattle.table.specs.TableLayer.{column, parent_column, child_column, next_column, class_column, flag_column}
@@ -51,12 +51,11 @@ pub record LinksKept (t t' : List ℕ) : Type 0 where
 abbrev pub SearchIn : (t : List ℕ) (p stamp : ℕ) (t' : List ℕ) (head tail : ℕ) → Type 0
 SearchIn t p stamp t' head tail = Search (child_column t) (next_column t) (class_column t) p stamp (flag_column t') (parent_column t') head tail
 
--- what one turn of the search leaves: 0 where p's class was met; else the new tail
-pub record Turned (t : List ℕ) (p stamp head : ℕ) (t' : List ℕ) (r : ℕ) : Type 0 where
+-- what one turn of the search leaves: none where p's class was met; else the new tail
+pub record Turned (t : List ℕ) (p stamp head : ℕ) (t' : List ℕ) (r : Option ℕ) : Type 0 where
   pub kept : LinksKept t t'
   pub stamps : Stamped (flag_column t') stamp
-  pub met : r ≡ 0 → Looped (child_column t) (next_column t) (class_column t) p
-  pub searched : r ≢ 0 → SearchIn t p stamp t' (suc head) r
+  pub searched : MatchOption r (Looped (child_column t) (next_column t) (class_column t) p) (λ tail. SearchIn t p stamp t' (suc head) tail)
 
 -- what the search answers of p
 pub record Answered (t : List ℕ) (p stamp : ℕ) (t' : List ℕ) (r : Bool) : Type 0 where

@@ -1,5 +1,5 @@
 -- The steps of a search whose queue and stamps stand in the table of the rows that it searches. Assumes nothing.
-use Rattle.std.specs.Prelude.{◌≡◌, refl, ◌≢◌, true, false, List, ℕ, suc, ◌+◌, ◌≤◌, ◌<◌, length, get_or, set}
+use Rattle.std.specs.Prelude.{◌≡◌, refl, ◌≢◌, true, false, List, ℕ, suc, ◌+◌, ◌≤◌, ◌<◌, length, get_or, set, Option, None, Some, MatchOption}
 use Rattle.std.proofs.Common.{sym, ap, subst, ◌∙◌, arith}
 use Rattle.table.specs.TableLayer.{column, parent_column, child_column, next_column, class_column, flag_column, Stored}
 use Rattle.table.specs.TableLaws.{column_length}
@@ -59,13 +59,16 @@ looped_links t t₁ p k s =
     (subst (λ (l : List ℕ). Looped (child_column t₁) l (class_column t) p) (k.others 4 (omega arith) (omega arith) (omega arith))
     (subst (λ (l : List ℕ). Looped (child_column t₁) (next_column t₁) l p) (k.others 5 (omega arith) (omega arith) (omega arith)) s))
 
-pub turned_from : (t t₁ t₂ : List ℕ) (p stamp head r : ℕ) → LinksKept t t₁ → Turned t₁ p stamp head t₂ r → Turned t p stamp head t₂ r
+pub turned_from : (t t₁ t₂ : List ℕ) (p stamp head : ℕ) (r : Option ℕ) → LinksKept t t₁ → Turned t₁ p stamp head t₂ r → Turned t p stamp head t₂ r
 turned_from t t₁ t₂ p stamp head r k u = record {
   kept = kept_then t t₁ t₂ k u.kept;
   stamps = u.stamps;
-  met = λ e. looped_links t t₁ p k (u.met e);
-  searched = λ n. search_links t t₁ t₂ p stamp (suc head) r k (u.searched n);
+  searched = go r u.searched;
 }
+  where
+    go : (r : Option ℕ) → MatchOption r (Looped (child_column t₁) (next_column t₁) (class_column t₁) p) (λ tail. SearchIn t₁ p stamp t₂ (suc head) tail) → MatchOption r (Looped (child_column t) (next_column t) (class_column t) p) (λ tail. SearchIn t p stamp t₂ (suc head) tail)
+    go None h = looped_links t t₁ p k h
+    go (Some tail) h = search_links t t₁ t₂ p stamp (suc head) tail k h
 
 pub walkable_now : (t t₁ : List ℕ) → LinksKept t t₁ → Walkable (rows_of t) (length (flag_column t)) → Walkable (rows_of t₁) (length (flag_column t₁))
 walkable_now t t₁ k w = record {
@@ -106,12 +109,11 @@ module _ (t : List ℕ) (p stamp : ℕ) (w : Walkable (rows_of t) (length (flag_
       let d = kept_word t t₁ 5 q c (omega arith) (omega arith) (omega arith) g.kept e in
       (d, omega (arith, d, w.placed q h, long 7 7 t₁ g.kept))
 
-  pub turn_met : (head a q k c : ℕ) (t₁ : List ℕ) → TurnIn t p stamp head a t₁ q k → q < length (child_column t) → c ≡ get_or (class_column t₁) q 0 → c ≡ get_or (class_column t) p 0 → Turned t p stamp head t₁ 0
+  pub turn_met : (head a q k c : ℕ) (t₁ : List ℕ) → TurnIn t p stamp head a t₁ q k → q < length (child_column t) → c ≡ get_or (class_column t₁) q 0 → c ≡ get_or (class_column t) p 0 → Turned t p stamp head t₁ None
   turn_met head a q k c t₁ g h e d = record {
     kept = g.kept;
     stamps = g.turning.stamps;
-    met = λ z. turning_met (child_column t) (next_column t) (class_column t) p stamp (length (flag_column t)) head a q k (flag_column t₁) (parent_column t₁) placed h (sym (turn_class head a q k c t₁ g h e).0 ∙ d) g.turning;
-    searched = λ z. absurd (z refl);
+    searched = turning_met (child_column t) (next_column t) (class_column t) p stamp (length (flag_column t)) head a q k (flag_column t₁) (parent_column t₁) placed h (sym (turn_class head a q k c t₁ g h e).0 ∙ d) g.turning;
   }
 
   pub turn_skip : (head a q k c v q' : ℕ) (t₁ : List ℕ) → TurnIn t p stamp head a t₁ q k → q < length (child_column t) → c ≡ get_or (class_column t₁) q 0 → v ≡ get_or (flag_column t₁) c 0 → v ≡ stamp → q' ≡ get_or (next_column t₁) q 0
@@ -152,12 +154,11 @@ module _ (t : List ℕ) (p stamp : ℕ) (w : Walkable (rows_of t) (length (flag_
             (subst (λ (z : List ℕ). Turning (child_column t) (next_column t) (class_column t) p stamp head a z (set (parent_column t₁) k q) (get_or (next_column t) q 0) (k + 1)) (sym seen) pushed));
       }
 
-  pub turn_end : (head a q k : ℕ) (t₁ : List ℕ) → TurnIn t p stamp head a t₁ q k → length (child_column t) ≤ q → Turned t p stamp head t₁ k
+  pub turn_end : (head a q k : ℕ) (t₁ : List ℕ) → TurnIn t p stamp head a t₁ q k → length (child_column t) ≤ q → Turned t p stamp head t₁ (Some k)
   turn_end head a q k t₁ g h = record {
     kept = g.kept;
     stamps = g.turning.stamps;
-    met = λ z. let b = g.turning.more in absurd (omega (arith, b, z));
-    searched = λ z. turning_end (child_column t) (next_column t) (class_column t) p stamp head a q k (flag_column t₁) (parent_column t₁) h g.turning;
+    searched = turning_end (child_column t) (next_column t) (class_column t) p stamp head a q k (flag_column t₁) (parent_column t₁) h g.turning;
   }
 
 -- ---- the whole search
@@ -171,11 +172,11 @@ search_first t t₁ p stamp h low s =
 pub stamped_first : (t t₁ : List ℕ) (p stamp : ℕ) → ((c : ℕ) → get_or (flag_column t) c 0 < stamp) → Stored 1 0 p t t₁ → Stamped (flag_column t₁) stamp
 stamped_first t t₁ p stamp low s = λ c. let e : get_or (flag_column t₁) c 0 ≡ get_or (flag_column t) c 0 = ap (λ (l : List ℕ). get_or l c 0) (s.others 7 (omega arith) (omega arith)) in omega (arith, e, low c)
 
-pub turned_on : (t t₁ : List ℕ) (p stamp head r : ℕ) → Turned t p stamp head t₁ r → r ≢ 0 → SearchIn t p stamp t₁ (head + 1) r
-turned_on t t₁ p stamp head r u n = let e : suc head ≡ head + 1 = omega arith in subst (λ (z : ℕ). SearchIn t p stamp t₁ z r) e (u.searched n)
+pub turned_on : (t t₁ : List ℕ) (p stamp head r : ℕ) → Turned t p stamp head t₁ (Some r) → SearchIn t p stamp t₁ (head + 1) r
+turned_on t t₁ p stamp head r u = let e : suc head ≡ head + 1 = omega arith in subst (λ (z : ℕ). SearchIn t p stamp t₁ z r) e u.searched
 
-pub answer_yes : (t t₁ : List ℕ) (p stamp head r : ℕ) → Turned t p stamp head t₁ r → r ≡ 0 → Answered t p stamp t₁ true
-answer_yes t t₁ p stamp head r u e = record { kept = u.kept; stamps = u.stamps; yes_is = λ d. u.met e; no_is = λ d. absurd (true_false d) }
+pub answer_yes : (t t₁ : List ℕ) (p stamp head : ℕ) → Turned t p stamp head t₁ None → Answered t p stamp t₁ true
+answer_yes t t₁ p stamp head u = record { kept = u.kept; stamps = u.stamps; yes_is = λ d. u.searched; no_is = λ d. absurd (true_false d) }
 
 pub answer_no : (t t₁ : List ℕ) (p stamp head tail : ℕ) → LinksKept t t₁ → Stamped (flag_column t₁) stamp → tail ≤ head → SearchIn t p stamp t₁ head tail → Answered t p stamp t₁ false
 answer_no t t₁ p stamp head tail k st h s = record {

@@ -6,9 +6,9 @@ ghost use Rattle.table.specs.TableLayer.{child_column, flag_column};
 ghost use Rattle.walk.specs.WalkLayer.{Walkable, rows_of};
 ghost use Rattle.ring_search.specs.SearchLayer.{Stamped, SearchIn, Turned, Answered};
 
-// Stamps the classes of the children of the position at the queue's head, and puts those children at its end that bring a new class: the new tail, or 0 where a child has the class of p.
+// Stamps the classes of the children of the position at the queue's head, and puts those children at its end that bring a new class: the new tail, or none where a child has the class of p.
 // The queue stands in the column of parents, the stamps by class in the column of flags.
-fn turn(p: u32, head: u32, tail: u32, stamp: u32, table: &mut [u32]) -> u32
+fn turn(p: u32, head: u32, tail: u32, stamp: u32, table: &mut [u32]) -> Option<u32>
     requires walkable { Walkable (rows_of table.old) (length (flag_column table.old)) × (length (flag_column table.old) ≤ 1024) × (head < tail) }
     requires search_in { SearchIn table.old p stamp table.old head tail × Stamped (flag_column table.old) stamp }
     ensures { Turned table.old p stamp head table.new result }
@@ -21,7 +21,7 @@ fn turn(p: u32, head: u32, tail: u32, stamp: u32, table: &mut [u32]) -> u32
     while q < n {
         let c = table::word(table, q, table::CLASS);
         if c == target {
-            return 0;
+            return None;
         }
         if table::word(table, c, table::FLAG) == stamp {
             q = table::word(table, q, table::NEXT);
@@ -32,7 +32,7 @@ fn turn(p: u32, head: u32, tail: u32, stamp: u32, table: &mut [u32]) -> u32
         after += 1;
         q = table::word(table, q, table::NEXT);
     }
-    after
+    Some(after)
 }
 
 // Whether the numeral of the row at p can be reached from itself by the linked rows: a search breadth first. All flags are below `stamp` before, and none is above it after.
@@ -45,10 +45,9 @@ pub fn is_ringed(p: u32, stamp: u32, table: &mut [u32]) -> bool
     let mut head = 0;
     let mut tail = 1;
     while head < tail {
-        let after = turn(p, head, tail, stamp, table);
-        if after == 0 {
+        let Some(after) = turn(p, head, tail, stamp, table) else {
             return true;
-        }
+        };
         tail = after;
         head += 1;
     }

@@ -1,5 +1,5 @@
 -- One step in the words of crate islands: the entry is walked, the rows below it are flagged, and the cut links are those of the rows still in I. Assumes nothing.
-use Rattle.std.specs.Prelude.{◌≡◌, ℕ, suc, ◌+◌, ◌-◌, ◌*◌, ◌<◌, ◌≤◌, Bool, true, false, cond, not, ◌&&◌, ◌≢◌, List, [], ◌∷◌, map, length, get_or, ◌==◌, slice_index, slice_index_or, refl}
+use Rattle.std.specs.Prelude.{◌≡◌, ℕ, suc, ◌+◌, ◌-◌, ◌*◌, ◌<◌, ◌≤◌, Bool, true, false, cond, not, ◌&&◌, ◌≢◌, List, [], ◌∷◌, map, length, get_or, ◌==◌, slice_index, slice_index_or, refl, None}
 use Rattle.std.proofs.Common.{sym, ◌∙◌, arith}
 use Rattle.std.proofs.Math.Path.{ap, subst}
 use Rattle.std.proofs.lemmas.List.Edits.{sets}
@@ -9,7 +9,6 @@ use Rattle.lists.specs.Lists.{◌∈◌, filter, numbers}
 use Rattle.lists.specs.MemberLaws.{and_in, and_out, is_true, same_test, filter_in, filter_out, get_or_in, increasing_at, map_in, map_out}
 use Rattle.lists.specs.CountingLaws.{map_positions}
 use Rattle.rows.specs.declared.Row.{Row}
-use Rattle.options.specs.declared.Depth.TheVariants.{None}
 use Rattle.image.specs.declared.Body.{Body}
 use Rattle.image.specs.Layout.{row_at, flat}
 use Rattle.paths.specs.Forest.{memb}

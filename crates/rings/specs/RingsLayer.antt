@@ -1,9 +1,8 @@
 -- What the pass that enters islands is given and what it leaves. Assumes nothing: these are definitions.
-use Rattle.std.specs.Prelude.{◌≡◌, ℕ, ◌+◌, ◌-◌, ◌*◌, ◌<◌, ◌≤◌, Bool, true, not, ◌≢◌, List, length, slice_index, slice_set}
+use Rattle.std.specs.Prelude.{◌≡◌, ℕ, ◌+◌, ◌-◌, ◌*◌, ◌<◌, ◌≤◌, Bool, true, not, ◌≢◌, List, length, slice_index, slice_set, None}
 use Rattle.lists.specs.Choice.{bit}
 use Rattle.lists.specs.Lists.{◌∈◌}
 use Rattle.rows.specs.declared.Row.{Row}
-use Rattle.options.specs.declared.Depth.TheVariants.{None}
 use Rattle.paths.specs.Forest.{memb}
 use Rattle.paths.specs.Rows.{num, par, RowOf}
 use Rattle.paths.specs.Nodes.{sorted, orphan_rows}

@@ -21,8 +21,8 @@ fn unname(n: u32, progress: Progress, index: &mut [u32]) -> Progress
     let x = index[at];
     index[at] = 0;
     Progress {
-        count: progress.count,
-        check: std::num::wrapping_sub_u32(progress.check, x),
+        check: progress.check.wrapping_sub(x),
+        ..progress
     }
 }
 
@@ -46,7 +46,7 @@ fn enter(
     if bounds.cap <= n {
         return Progress {
             count: bounds.cap + 1,
-            check: progress.check,
+            ..progress
         };
     }
     let after = walk::roots(p, p + 1, place, bounds, progress, table, marks, index);
@@ -99,35 +99,22 @@ fn enter_rings(
     ensures rows_kept { RowsKept table.old table.new }
 {
     let n = table::rows(table) as u32;
-    let mut count = progress.count;
-    let mut sum = progress.check;
-    let mut x = 0;
-    while x < n {
+    let mut met = progress;
+    for x in 0..n {
         if reached[x as usize] != 0 {
-            x += 1;
             continue;
         }
         let p = table::word(table, x, table::PARENT_POSITION) % cuts::LATER;
         if !ring_search::is_ringed(p, x + 2, table) {
-            x += 1;
             continue;
         }
-        let before = Progress {
-            count: count,
-            check: sum,
-        };
-        let after = take_island(p, place, bounds, before, table, reached, marks, index);
+        let after = take_island(p, place, bounds, met, table, reached, marks, index);
         if bounds.cap < after.count {
             return after;
         }
-        count = after.count;
-        sum = after.check;
-        x += 1;
+        met = after;
     }
-    Progress {
-        count: count,
-        check: sum,
-    }
+    met
 }
 
 // Enters the islands that are left beside the orphan paths, under the node of a rank, or as roots where the rank is 0. The links are those of the rows that end no regular path;
@@ -152,14 +139,14 @@ pub fn enter_islands(
     cuts::chain_classes(table);
     let n = table::rows(table) as u32;
     let place = Place {
-        level: level,
+        level,
         parent: rank,
         root: rank,
         orphan: true,
     };
     let bounds = Bounds {
         limit: n + level + 1,
-        cap: cap,
+        cap,
     };
     enter_rings(place, bounds, progress, table, reached, marks, index)
 }

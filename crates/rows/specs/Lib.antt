@@ -3,3 +3,4 @@ pub mod SoundLayer
 pub mod EntryLaws
 pub mod JournalCases
 pub mod Days
+pub mod KindLayer

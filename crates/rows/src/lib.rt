@@ -1,13 +1,14 @@
 // Rows of a parts list, the entries that change them, and when both make a sound board, by numbers. Row numbers are counted from 1, places from 0.
 #![tactic(auto)]
 
-ghost use Rattle.std.specs.Prelude.{◌≡◌, cond, ◌≤◌, eqb};
+ghost use Rattle.std.specs.Prelude.{◌≡◌, cond, eqb};
 ghost use Rattle.rows.specs.Journal.{blank, remarked, undated};
+ghost use Rattle.rows.specs.KindLayer.{KindOf};
 ghost use Rattle.rows.specs.SoundLayer.{can_do, none_or, sound_by};
 
 // The days from the first to the last, both included; none where the first is after the last.
 #[repr(C)]
-#[derive(Clone, Copy)]
+#[derive(Clone, Copy, Debug, Default, PartialEq, Eq)]
 pub struct Days {
     pub first: u32,
     pub last: u32,
@@ -15,7 +16,7 @@ pub struct Days {
 
 // A row of the parts list: parent 0 is none, minutes below 0 are a deduction.
 #[repr(C)]
-#[derive(Clone, Copy)]
+#[derive(Clone, Copy, Debug, Default, PartialEq, Eq)]
 pub struct Row {
     pub parent: u32,
     pub numeral: u32,
@@ -24,9 +25,36 @@ pub struct Row {
     pub days: Days,
 }
 
-// An operation on the rows. Kind 0 takes out the row at place `at`, 1 puts `row` in at place `at`, 2 sets place `at` to `row`.
+// What an entry does to the rows: it takes out the row at its place, puts its row in there, or sets the place to its row.
+#[derive(Clone, Copy, Debug, PartialEq, Eq)]
+pub enum Kind {
+    TakeOut = 0,
+    PutIn = 1,
+    Set = 2,
+}
+
+// A number that stands for no kind.
+#[derive(Clone, Copy, Debug, PartialEq, Eq)]
+pub struct UnknownKind(pub u32);
+
+impl TryFrom<u32> for Kind {
+    type Error = UnknownKind;
+
+    ghost try_from_gives = { KindOf };
+
+    fn try_from(number: u32) -> Result<Self, UnknownKind> {
+        match number {
+            0 => Ok(Kind::TakeOut),
+            1 => Ok(Kind::PutIn),
+            2 => Ok(Kind::Set),
+            _ => Err(UnknownKind(number)),
+        }
+    }
+}
+
+// An operation on the rows. Its kind is a number, since a board comes by value from C, with any words in its journal.
 #[repr(C)]
-#[derive(Clone, Copy)]
+#[derive(Clone, Copy, Debug, Default, PartialEq, Eq)]
 pub struct Entry {
     pub kind: u32,
     pub at: u32,
@@ -34,7 +62,7 @@ pub struct Entry {
 }
 
 // An edit as a value.
-#[derive(Clone, Copy)]
+#[derive(Clone, Copy, Debug, PartialEq, Eq)]
 pub enum Call {
     Add(Row),
     Withdraw(usize),
@@ -47,14 +75,7 @@ pub enum Call {
 pub fn with_minutes(row: Row, minutes: i32) -> Row
     ensures { result ≡ remarked row minutes }
 {
-    let days = row.days;
-    Row {
-        parent: row.parent,
-        numeral: row.numeral,
-        order: row.order,
-        minutes: minutes,
-        days: days,
-    }
+    Row { minutes, ..row }
 }
 
 // A row entered without days: all days are its days.
@@ -68,7 +89,7 @@ pub fn undated_row(parent: u32, numeral: u32, order: u32, minutes: i32) -> Row
         minutes,
         days: Days {
             first: 0,
-            last: 4294967295,
+            last: u32::MAX,
         },
     }
 }
@@ -77,81 +98,45 @@ pub fn undated_row(parent: u32, numeral: u32, order: u32, minutes: i32) -> Row
 pub fn blank_row() -> Row
     ensures { result ≡ blank }
 {
-    Row {
-        parent: 0,
-        numeral: 0,
-        order: 0,
-        minutes: 0,
-        days: Days { first: 0, last: 0 },
-    }
+    Row::default()
 }
 
 pub fn entry_of(kind: u32, at: u32, row: Row) -> Entry
     ensures { result ≡ record { kind = kind; at = at; row = row } }
 {
-    Entry {
-        kind: kind,
-        at: at,
-        row: row,
-    }
+    Entry { kind, at, row }
 }
 
 // The inverse of an entry, `old` being the row at its place.
 pub fn inverse_of(kind: u32, at: u32, row: Row, old: Row) -> Entry
     ensures { result ≡ cond (eqb kind 0) (record { kind = 1; at = at; row = old }) (cond (eqb kind 1) (record { kind = 0; at = at; row = row }) (record { kind = 2; at = at; row = old })) }
 {
-    if kind == 0 {
-        return entry_of(1, at, old);
+    match Kind::try_from(kind) {
+        Ok(Kind::TakeOut) => entry_of(Kind::PutIn as u32, at, old),
+        Ok(Kind::PutIn) => entry_of(Kind::TakeOut as u32, at, row),
+        Ok(Kind::Set) | Err(_) => entry_of(Kind::Set as u32, at, old),
     }
-    if kind == 1 {
-        return entry_of(0, at, row);
-    }
-    entry_of(2, at, old)
-}
-
-// The count, at most the 1,024 places that there are.
-pub fn held(count: usize) -> usize
-    ensures { (result ≤ 1024) × (count ≤ 1024 → result ≡ count) }
-{
-    if 1024 < count {
-        return 1024;
-    }
-    count
 }
 
 // Whether an entry can be carried out on n rows with numerals of 1 or more.
+#[tactic(auto, unfolding(crate::specs::SoundLayer::can_do))]
 fn can_do(e: Entry, n: usize) -> bool
     ensures { result ≡ can_do e n }
 {
-    let kind = e.kind;
     let at = e.at as usize;
-    if kind == 0 {
-        return at < n;
+    match Kind::try_from(e.kind) {
+        Ok(Kind::TakeOut) => at < n,
+        Ok(Kind::PutIn) => e.row.numeral != 0 && n < 1024 && at <= n,
+        Ok(Kind::Set) => e.row.numeral != 0 && at < n,
+        Err(_) => false,
     }
-    let row = e.row;
-    if row.numeral == 0 {
-        return false;
-    }
-    if kind == 1 {
-        if 1024 <= n {
-            return false;
-        }
-        return at <= n;
-    }
-    if kind == 2 {
-        return at < n;
-    }
-    false
 }
 
 // The same, if there are entries of its sort.
 fn none_or(many: usize, e: Entry, n: usize) -> bool
     ensures { result ≡ none_or many e n }
 {
-    if many == 0 {
-        return true;
-    }
-    can_do(e, n)
+    many == 0 || can_do(e, n)
 }
 
 // Whether a board is sound, by its numbers, its newest entries and whether all its rows have numerals of 1 or more.
@@ -166,20 +151,10 @@ pub fn sound_by(
 ) -> bool
     ensures { result ≡ sound_by count kept undone numbered newest next }
 {
-    if 1024 < count {
-        return false;
-    }
-    if 256 < kept {
-        return false;
-    }
-    if 256 < undone {
-        return false;
-    }
-    if !numbered {
-        return false;
-    }
-    if !none_or(kept, newest, count) {
-        return false;
-    }
-    none_or(undone, next, count)
+    count <= 1024
+        && kept <= 256
+        && undone <= 256
+        && numbered
+        && none_or(kept, newest, count)
+        && none_or(undone, next, count)
 }

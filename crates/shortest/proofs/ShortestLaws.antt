@@ -1,6 +1,6 @@
 -- The executable list of Shortest holds the kept paths and nothing else, each numeral that a regular path reaches once, in path order; every beginning of a kept path is kept; no kept path closes;
 -- they are no more than the rows; the bodies are what one walk over the rows that end them writes. Assumes nothing.
-use Rattle.std.specs.Prelude.{◌≡◌, ◌⊎◌, ◌≢◌, ◌↔◌, Bool, cond, ◌&&◌, ℕ, suc, ◌≤◌, ◌<◌, T, ltb, pos}
+use Rattle.std.specs.Prelude.{◌≡◌, ◌⊎◌, ◌≢◌, ◌↔◌, Bool, cond, ◌&&◌, ℕ, suc, ◌≤◌, ◌<◌, T, ltb, pos, None}
 use Rattle.std.proofs.Math.Path.{refl, sym, ap, subst}
 use Rattle.std.proofs.Common.{ap₂, ◌∙◌, lt-ltb, le-ltb, eqb→eq}
 use Rattle.std.proofs.Math.Logic.{inl, inr, ⊎_elim}
@@ -11,7 +11,6 @@ use Rattle.std.proofs.Math.Decide.{dec_lt}
 use Rattle.std.proofs.Math.Dec.{T_not, not_T, eqb}
 use Rattle.std.proofs.Math.ListN.{length, length-map}
 use Rattle.rows.specs.declared.Row.{Row}
-use Rattle.options.specs.declared.Depth.TheVariants.{None}
 use Rattle.options.specs.Options.{level_limit}
 use Rattle.image.specs.declared.Body.{Body}
 use Rattle.lists.specs.Lists.{◌∈◌, filter, numbers, Increasing, totals_from}

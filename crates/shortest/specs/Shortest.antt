@@ -1,11 +1,10 @@
 -- Change request 2.6, "Shortest placement": the kept paths in its words; then as executable lists, and beside each the law of ShortestLaws that says what it holds; the bodies, the rows left over, and
 -- what a build answers and leaves, for every board and start rule. Assumes nothing: these are definitions.
-use Rattle.std.specs.Prelude.{◌≡◌, ◌⊎◌, Bool, false, cond, not, List, [], ◌∷◌, map, ℕ, ◌<◌, eqb, ltb, ℤ, pos, length, replicate}
+use Rattle.std.specs.Prelude.{◌≡◌, ◌⊎◌, Bool, false, cond, not, List, [], ◌∷◌, map, ℕ, ◌<◌, eqb, ltb, ℤ, pos, length, replicate, None}
 use Rattle.lists.specs.Lists.{filter, numbers, front}
 use Rattle.rows.specs.declared.Row.{Row}
 use Rattle.board.specs.declared.Board.{Board}
 use Rattle.board.specs.Edits.{rows_of, sound_of}
-use Rattle.options.specs.declared.Depth.TheVariants.{None}
 use Rattle.image.specs.declared.Body.{Body}
 use Rattle.image.specs.Layout.{image_words}
 use Rattle.built.specs.declared.Built.{Built}

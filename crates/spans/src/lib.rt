@@ -2,61 +2,45 @@
 #![tactic(auto)]
 
 ghost use Rattle.std.specs.Prelude.{◌≡◌};
+ghost use Rattle.refusal.specs.Numbers.{refusal_of};
 ghost use Rattle.spans.specs.Spans.{rank_refusal, span_refusal, span_part};
 
-// 13 or 14 where the index has no such rank, else 0.
+use refusal::Refusal;
+
+// Refuses a rank that the index doesn't have.
 #[tactic(auto, unfolding(crate::specs::Spans::bad_rank, image::specs::Layout::bad_contents))]
-pub fn rank_refusal(index: &[u32], rank: u32) -> u32
-    ensures { result ≡ rank_refusal index.now rank }
+pub fn check_rank(index: &[u32], rank: u32) -> Result<(), Refusal>
+    ensures { refusal_of result ≡ rank_refusal index.now rank }
 {
-    let refusal = image::contents_refusal(index);
-    if refusal != 0 {
-        return refusal;
+    image::check_contents(index)?;
+    if rank == 0 || index[0] < rank {
+        return Err(Refusal::NoSuchRank);
     }
-    if rank == 0 {
-        return 14;
-    }
-    if index[0] < rank {
-        return 14;
-    }
-    0
+    Ok(())
 }
 
-// 13, 14 or 15 where the rank has no span, else 0.
+// Refuses a rank that has no span.
 #[tactic(auto, unfolding(crate::specs::Spans::bad_rank, crate::specs::Spans::bad_span, image::specs::Layout::bad_contents))]
-pub fn span_refusal(index: &[u32], rank: u32) -> u32
-    ensures { result ≡ span_refusal index.now rank }
+pub fn check_span(index: &[u32], rank: u32) -> Result<(), Refusal>
+    ensures { refusal_of result ≡ span_refusal index.now rank }
 {
-    let refusal = image::contents_refusal(index);
-    if refusal != 0 {
-        return refusal;
-    }
+    check_rank(index, rank)?;
     let n = index[0] as usize;
     let r = rank as usize;
-    if r == 0 {
-        return 14;
-    }
-    if n < r {
-        return 14;
-    }
     let size = image::body_of(index, r).size as usize;
-    if size == 0 {
-        return 15;
+    if size == 0 || n < r + size - 1 {
+        return Err(Refusal::DamagedIndex);
     }
-    if n < r + size - 1 {
-        return 15;
-    }
-    0
+    Ok(())
 }
 
-// The bodies of the ranks of a node's span; no words where `span_refusal` is not 0.
+// The bodies of the ranks of a node's span; no words where `check_span` refuses it.
 pub fn span(index: &[u32], rank: u32) -> &[u32]
     ensures { result.now ≡ span_part index.now rank }
 {
-    let refusal = span_refusal(index, rank);
-    if refusal != 0 {
+    let Ok(()) = check_span(index, rank) else {
         return &index[0..0];
-    }
+    };
     let r = rank as usize;
     let body = image::body_of(index, r);
     let at = image::body_at(r);

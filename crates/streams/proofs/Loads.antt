@@ -1,9 +1,9 @@
 -- Loads of some bytes. Assumes nothing.
 use Rattle.std.specs.Prelude.{ℕ, ◌≡◌, true, List, [], ◌++◌, Option}
 use Rattle.std.proofs.Common.{◌∙◌}
-use Rattle.std.proofs.Math.Path.{refl, ap}
-use Rattle.std.specs.Io.KnownBytes.{Consumes, Keeps}
-use Rattle.std.proofs.KnownBytes.{Consumes-nil, Consumes-kept, Consumes-trans}
+use Rattle.std.proofs.Math.Path.{ap}
+use Rattle.std.specs.Io.KnownBytes.{Consumes}
+use Rattle.std.proofs.KnownBytes.{Consumes-trans}
 use Rattle.listing.specs.declared.Load.{Load}
 use Rattle.listing.specs.Loading.{start_of, stopped, feed_of, end_of}
 use Rattle.listing.specs.OutcomeLaws.{feed_chunks, end_stopped}
@@ -19,10 +19,6 @@ module _ (l : Load) where
   pub fed_from_nothing : (a b : Option (List ℕ)) (m : Load) → m ≡ l → Consumes a b [] → FedFrom a b l m
   unfolding feed_of
   fed_from_nothing a b m e k = record { bytes = []; load = e; given = k }
-
-  -- a read that fails gives no byte
-  pub fed_from_failed : (a b : Option (List ℕ)) → Keeps a b → FedFrom a b l l
-  fed_from_failed a b k = fed_from_nothing a b l refl (Consumes-kept a a b [] (Consumes-nil a) k)
 
   pub fed_more : (m n : Load) → Fed l m → Fed m n → Fed l n
   fed_more m n f g = record { bytes = f.bytes ++ g.bytes; load = g.load ∙ ap (λ (k : Load). feed_of k g.bytes) f.load ∙ feed_chunks l f.bytes g.bytes }

@@ -1,7 +1,9 @@
 -- What the listing program writes, as texts. Assumes nothing: these are definitions.
-use Rattle.std.specs.Prelude.{ℕ, zero, suc, ◌+◌, cond, List, [], ◌++◌, ℤ, codes, decimal, eqb}
+use Rattle.std.specs.Prelude.{ℕ, zero, suc, ◌+◌, List, [], ◌++◌, ℤ, codes, decimal, Option, None, Some}
 use Rattle.printing.specs.Printed.{line_text}
 use Rattle.listing.specs.declared.Load.{Load}
+use Rattle.listing.specs.declared.Wrong.{Wrong}
+use Rattle.listing.specs.declared.Wrong.TheVariants as wrong
 use Rattle.listing.specs.Nodes.{columns_of}
 
 -- a refusal
@@ -13,8 +15,13 @@ abbrev pub bad_line_text : ℕ → List ℕ
 bad_line_text n = codes "bad line " ++ (decimal n ++ codes "\n")
 
 -- what is wrong with a load: a bad line or a refused row, or nothing
+abbrev pub text_of_wrong : Option Wrong → ℕ → List ℕ
+text_of_wrong None line = []
+text_of_wrong (Some wrong.BadLine) line = bad_line_text line
+text_of_wrong (Some (wrong.Refused n)) line = refusal_text n
+
 abbrev pub wrong_text : Load → List ℕ
-wrong_text l = cond l.bad (bad_line_text l.line) (cond (eqb l.refusal 0) [] (refusal_text l.refusal))
+wrong_text l = text_of_wrong l.wrong l.line
 
 abbrev pub header_text : List ℕ
 header_text = codes "rank size parent level root cycle orphan id sum\n"

@@ -5,62 +5,32 @@ ghost use Rattle.std.specs.Prelude.{◌≡◌, IfOk, OnOk};
 ghost use Rattle.std.specs.Io.KnownBytes.{Appends};
 ghost use Rattle.printing.specs.Printed.{line_text};
 ghost use Rattle.listing.specs.Loading.{stopped};
-ghost use Rattle.listing.specs.Nodes.{columns_of};
 ghost use Rattle.streams.specs.Reading.{OfText, ReadFrom};
-ghost use Rattle.streams.specs.ReadingLayer.{Fed, FedFrom};
 ghost use Rattle.streams.specs.Writing.{refusal_text, bad_line_text, wrong_text, listing_text};
 
-use listing::Load;
+use arrayvec::ArrayString;
+use listing::{Load, Wrong};
+use printing::Columns;
+use std::fmt::Write as _;
 use std::io;
 use std::io::{Read, Write};
 
-// A load, and whether the input has ended.
-#[derive(Clone, Copy)]
-struct Reading {
-    ended: bool,
-    load: Load,
-}
-
-// Reads once. A read that fails counts as the end of the input.
-fn read_some<R: Read>(input: &mut R, load: Load) -> Reading
-    ensures fed { Fed load result.load }
-    ensures given { FedFrom (R.remaining input.old) (R.remaining input.new) load result.load }
-{
-    let mut buf = [0u8; 4096];
-    match input.read(&mut buf) {
-        Ok(n) => {
-            if n == 0 {
-                return Reading { ended: true, load };
-            }
-            let next = listing::feed(load, &buf[..n]);
-            Reading {
-                ended: false,
-                load: next,
-            }
-        }
-        Err(_) => Reading { ended: true, load },
-    }
-}
-
-// Reads the input to its end, or to the first thing that is wrong.
+// Reads the input to its end, or to the first thing that is wrong. A read that fails counts as the end of the input.
+#[tactic(auto, using(crate::proofs::Loads::text_stopped, crate::proofs::Loads::read_stopped))]
 pub fn read_all<R: Read>(input: &mut R) -> Load
     ensures of_text { OfText result }
     ensures given { ReadFrom (R.remaining input.old) (R.remaining input.new) result }
 {
     let mut now = Load::start();
+    let mut buf = [0u8; 4096];
     for _ in 0..u64::MAX {
-        if now.bad {
+        if now.wrong.is_some() {
             return now;
         }
-        if now.refusal != 0 {
-            return now;
+        match input.read(&mut buf) {
+            Ok(n) if 0 < n => now = listing::feed(now, &buf[..n]),
+            _ => return now.end(),
         }
-        let reading = read_some(input, now);
-        let next = reading.load;
-        if reading.ended {
-            return next.end();
-        }
-        now = next;
     }
     now.end()
 }
@@ -84,24 +54,21 @@ pub fn print_wrong<W: Write>(out: &mut W, load: &Load) -> io::Result<bool>
     ensures wrong { IfOk result (λ wrong. wrong ≡ stopped load.now) }
     ensures text { OnOk result (Appends (W.contents out.old) (W.contents out.new) (wrong_text load.now)) }
 {
-    if load.bad {
-        print_bad_line(out, load.line)?;
-        return Ok(true);
+    match load.wrong {
+        None => return Ok(false),
+        Some(Wrong::BadLine) => print_bad_line(out, load.line)?,
+        Some(Wrong::Refused(refusal)) => print_refusal(out, refusal)?,
     }
-    if load.refusal != 0 {
-        print_refusal(out, load.refusal)?;
-        return Ok(true);
-    }
-    Ok(false)
+    Ok(true)
 }
 
-fn print_node<W: Write>(out: &mut W, index: &[u32], totals: &[i64], rank: u32) -> io::Result<()>
-    ensures { OnOk result (Appends (W.contents out.old) (W.contents out.new) (line_text (columns_of index.now totals.now rank))) }
+// Prints a node's line in one write: its columns come one by one, and a line has at most 91 bytes, so that 256 are enough.
+fn print_line<W: Write>(out: &mut W, columns: Columns) -> io::Result<()>
+    ensures { OnOk result (Appends (W.contents out.old) (W.contents out.new) (line_text columns)) }
 {
-    let line = printing::line(listing::columns(index, totals, rank));
-    let bytes = line.bytes;
-    let from = line.from;
-    out.write_all(&bytes[from..])
+    let mut line = ArrayString::<256>::new();
+    writeln!(line, "{columns}")?;
+    out.write_all(line.as_bytes())
 }
 
 // Prints one header line, then a line for each of the n nodes of an index.
@@ -109,8 +76,8 @@ pub fn print_listing<W: Write>(out: &mut W, index: &[u32], totals: &[i64], n: u3
     ensures { OnOk result (Appends (W.contents out.old) (W.contents out.new) (listing_text index.now totals.now n)) }
 {
     out.write_all(b"rank size parent level root cycle orphan id sum\n")?;
-    for before in 0..n {
-        print_node(out, index, totals, before + 1)?;
+    for rank in 1..=n {
+        print_line(out, listing::columns(index, totals, rank))?;
     }
     Ok(())
 }

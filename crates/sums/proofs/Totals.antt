@@ -1,12 +1,12 @@
 -- Totals that are not beyond 2^47, own minutes that do not leave i32, and sums of them. Assumes nothing.
-use mathlib.Core.Path.{◌≡◌, sym, ap, ap₂, ◌∙◌, subst}
-use mathlib.Core.Bool.{Bool, true, false, ◌||◌, or-true}
+use mathlib.Core.Path.{◌≡◌, sym, ap, ◌∙◌, subst}
+use mathlib.Core.Bool.{false, ◌||◌}
 use mathlib.Core.List.{List, ◌∷◌}
 use Prim.Native.Nat.{ℕ, ◌+◌, ◌*◌, ◌≤◌}
 use native.Mathlib.Omega.{arith}
 use lib.Dec.{ltb}
 use lib.IntN.{ℤ, pos, negsuc, neg_ℤ, ◌+ℤ◌, ◌-ℤ◌, +ℤ_assoc}
-use lib.Signed.{mag, lt_z}
+use lib.Signed.{mag}
 use mir.Syntax.{w64}
 use mir.Val.{SFits, to_z, of_z}
 use mir.Facts.{to_z-of_z}
@@ -41,19 +41,6 @@ minutes_mag : (z : ℤ) → leaves32 z ≡ false → mag z ≤ 2147483647
 unfolding leaves32
 minutes_mag (pos n) e = ltb-false 2147483647 n (or_no (ltb 2147483647 n) _ e).0
 minutes_mag (negsuc n) e = ltb-false 2147483647 n (or_no false (ltb 2147483647 n) e).1
-
-module _ (z : ℤ) where
-  pub leaves_high : lt_z (pos 2147483647) z ≡ true → leaves32 z ≡ true
-  unfolding leaves32
-  leaves_high e = ap (λ (t : Bool). t || lt_z z (negsuc 2147483647)) e
-
-  pub leaves_low : lt_z z (negsuc 2147483647) ≡ true → leaves32 z ≡ true
-  unfolding leaves32
-  leaves_low e = ap (λ (t : Bool). lt_z (pos 2147483647) z || t) e ∙ or-true (lt_z (pos 2147483647) z)
-
-  pub leaves_not : lt_z (pos 2147483647) z ≡ false → lt_z z (negsuc 2147483647) ≡ false → leaves32 z ≡ false
-  unfolding leaves32
-  leaves_not e f = ap₂ ◌||◌ e f
 
 pub own_mag : (last first : ℤ) → bad_totals last first ≡ false → mag (last -ℤ first) ≤ 2147483647
 unfolding bad_totals

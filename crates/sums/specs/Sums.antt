@@ -1,5 +1,5 @@
 -- Paper 01, "Navigation": what subtree sum and path sum answer. Assumes nothing: these are definitions.
-use Rattle.std.specs.Prelude.{ℕ, ◌+◌, ◌-◌, ◌^◌, List, Bool, cond, ◌||◌, length, get_or, ltb, eqb, ℤ, pos, neg_ℤ, ◌-ℤ◌}
+use Rattle.std.specs.Prelude.{ℕ, ◌+◌, ◌-◌, ◌^◌, List, Bool, cond, ◌||◌, length, get_or, ltb, eqb, ℤ, pos, neg_ℤ, ◌-ℤ◌, Result, Ok, Err}
 use Rattle.std.specs.Int.Signed.{lt_z}
 use Rattle.lists.specs.Lists.{any, sum}
 use Rattle.lists.specs.Choice.{first_of}
@@ -7,6 +7,8 @@ use Rattle.image.specs.Layout.{node_count, contents_refusal}
 use Rattle.spans.specs.Spans.{end_of, rank_refusal, span_refusal}
 use Rattle.climb.specs.Climb.{chain, bad_climb}
 use Rattle.sums.specs.declared.Summed.{Summed}
+use Rattle.refusal.specs.declared.Refusal.{Refusal}
+use Rattle.refusal.specs.Numbers.{number}
 
 abbrev pub total_at : List ℤ → ℕ → ℤ
 total_at t k = get_or t k (pos 0)
@@ -25,6 +27,11 @@ beyond z = lt_z (pos (2 ^ 47)) z || lt_z z (neg_ℤ (pos (2 ^ 47)))
 -- a number that leaves i32
 unfoldable pub leaves32 : ℤ → Bool
 leaves32 z = lt_z (pos (2 ^ 31 - 1)) z || lt_z z (neg_ℤ (pos (2 ^ 31)))
+
+-- an answer as C has it: the refusal's number or 0, and the sum
+abbrev pub summed : Result ℤ Refusal → Summed
+summed (Ok sum) = record { refusal = 0; sum = sum }
+summed (Err r) = record { refusal = number r; sum = pos 0 }
 
 -- the result of a sum, or 0 where it is refused
 abbrev pub sum_answer : ℕ → ℤ → Summed

@@ -2,11 +2,14 @@
 #![tactic(auto)]
 
 ghost use Rattle.std.specs.Prelude.{◌≡◌, ◌||◌, ◌≤◌, ◌<◌, ◌-ℤ◌, length};
+ghost use Rattle.refusal.specs.Numbers.{refusal_of};
 ghost use Rattle.image.specs.Layout.{bodies_end};
-ghost use Rattle.sums.specs.Sums.{totals_refusal, beyond, bad_totals, bad_path, path_sum, subtree_answer, path_answer};
+ghost use Rattle.sums.specs.Sums.{totals_refusal, beyond, bad_totals, bad_path, path_sum, summed, subtree_answer, path_answer};
 ghost use Rattle.sums.specs.SumsLayer.{found};
 
-// The answer to a call that sums minutes.
+use refusal::Refusal;
+
+// The answer to a call that sums minutes, as C has it.
 #[repr(C)]
 #[derive(Clone, Copy)]
 pub struct Summed {
@@ -14,19 +17,31 @@ pub struct Summed {
     pub sum: i64,
 }
 
-// 13 where the slice is no index, or the totals are too few for it, else 0.
-pub fn totals_refusal(index: &[u32], totals: &[i64]) -> u32
-    ensures { result ≡ totals_refusal index.now totals.now }
-{
-    let refusal = image::contents_refusal(index);
-    if refusal != 0 {
-        return refusal;
+impl From<Result<i64, Refusal>> for Summed {
+    ghost from_gives = { λ answer s. s ≡ summed answer };
+
+    fn from(answer: Result<i64, Refusal>) -> Summed {
+        match answer {
+            Ok(sum) => Summed { refusal: 0, sum },
+            Err(refusal) => Summed {
+                refusal: refusal.number(),
+                sum: 0,
+            },
+        }
     }
+}
+
+// Refuses a slice that is no index, and totals that are too few for it.
+#[tactic(auto, unfolding(image::specs::Layout::bad_contents))]
+pub fn check_totals(index: &[u32], totals: &[i64]) -> Result<(), Refusal>
+    ensures { refusal_of result ≡ totals_refusal index.now totals.now }
+{
+    image::check_contents(index)?;
     let n = index[0] as usize;
     if totals.len() < n + 1 {
-        return 13;
+        return Err(Refusal::NoIndex);
     }
-    0
+    Ok(())
 }
 
 // Whether a total is beyond 2^47 either side.
@@ -34,132 +49,62 @@ pub fn totals_refusal(index: &[u32], totals: &[i64]) -> u32
 pub fn is_beyond(total: i64) -> bool
     ensures { result ≡ beyond total }
 {
-    if 140737488355328 < total {
-        return true;
-    }
-    total < -140737488355328
+    140737488355328 < total || total < -140737488355328
 }
 
-// A total less another; 15 where one is beyond 2^47.
-fn difference(last: i64, first: i64) -> Summed
-    ensures { result ≡ found (beyond last || beyond first) (last -ℤ first) }
+// A total less another, neither of them beyond 2^47.
+fn difference(last: i64, first: i64) -> Result<i64, Refusal>
+    ensures { summed result ≡ found (beyond last || beyond first) (last -ℤ first) }
 {
-    if is_beyond(last) {
-        return Summed {
-            refusal: 15,
-            sum: 0,
-        };
+    if is_beyond(last) || is_beyond(first) {
+        return Err(Refusal::DamagedIndex);
     }
-    if is_beyond(first) {
-        return Summed {
-            refusal: 15,
-            sum: 0,
-        };
-    }
-    Summed {
-        refusal: 0,
-        sum: last - first,
-    }
+    Ok(last - first)
 }
 
 // The total at the end of a node's span less the total before the node.
-pub fn subtree_sum(index: &[u32], totals: &[i64], rank: u32) -> Summed
-    ensures { result ≡ subtree_answer index.now totals.now rank }
+pub fn subtree_sum(index: &[u32], totals: &[i64], rank: u32) -> Result<i64, Refusal>
+    ensures { summed result ≡ subtree_answer index.now totals.now rank }
 {
-    let refusal = totals_refusal(index, totals);
-    if refusal != 0 {
-        return Summed { refusal, sum: 0 };
-    }
-    let spanned = spans::span_refusal(index, rank);
-    if spanned != 0 {
-        return Summed {
-            refusal: spanned,
-            sum: 0,
-        };
-    }
+    check_totals(index, totals)?;
+    spans::check_span(index, rank)?;
     let r = rank as usize;
     let size = image::body_of(index, r).size as usize;
-    let last = totals[r + size - 1];
-    let first = totals[r - 1];
-    difference(last, first)
+    difference(totals[r + size - 1], totals[r - 1])
 }
 
-// A total less another; 15 where one is beyond 2^47 or the difference leaves i32.
+// A total less another, neither of them beyond 2^47, where the difference fits i32.
 #[tactic(auto, unfolding(crate::specs::Sums::bad_totals, crate::specs::Sums::leaves32))]
-fn own_minutes(last: i64, first: i64) -> Summed
-    ensures { result ≡ found (bad_totals last first) (last -ℤ first) }
+fn own_minutes(last: i64, first: i64) -> Result<i32, Refusal>
+    ensures { summed result ≡ found (bad_totals last first) (last -ℤ first) }
 {
-    let own = difference(last, first);
-    let refusal = own.refusal;
-    let sum = own.sum;
-    if refusal != 0 {
-        return Summed {
-            refusal: 15,
-            sum: 0,
-        };
-    }
-    if 2147483647 < sum {
-        return Summed {
-            refusal: 15,
-            sum: 0,
-        };
-    }
-    if sum < -2147483648 {
-        return Summed {
-            refusal: 15,
-            sum: 0,
-        };
-    }
-    own
+    let minutes = difference(last, first)?;
+    i32::try_from(minutes).map_err(|_| Refusal::DamagedIndex)
 }
 
-// Own minutes over a climb.
-fn climb_sum(index: &[u32], totals: &[i64], rank: usize) -> Summed
+// Own minutes over a climb. The climb goes from parent to parent.
+fn climb_sum(index: &[u32], totals: &[i64], rank: usize) -> Result<i64, Refusal>
     requires { (1 ≤ rank) × (bodies_end rank ≤ length index.now) × (rank < length totals.now) × (rank ≤ 65535) }
-    ensures { result ≡ found (bad_path index.now totals.now rank) (path_sum index.now totals.now rank) }
+    ensures { summed result ≡ found (bad_path index.now totals.now rank) (path_sum index.now totals.now rank) }
 {
     let mut k = rank;
     let mut sum: i64 = 0;
     while 0 < k {
         let parent = image::body_of(index, k).parent as usize;
         if k <= parent {
-            return Summed {
-                refusal: 15,
-                sum: 0,
-            };
+            return Err(Refusal::DamagedIndex);
         }
-        let last = totals[k];
-        let first = totals[k - 1];
-        let own = own_minutes(last, first);
-        let refusal = own.refusal;
-        let minutes = own.sum;
-        if refusal != 0 {
-            return Summed {
-                refusal: 15,
-                sum: 0,
-            };
-        }
-        sum += minutes;
+        sum += i64::from(own_minutes(totals[k], totals[k - 1])?);
         k = parent;
     }
-    Summed { refusal: 0, sum }
+    Ok(sum)
 }
 
 // Own minutes over the node and all its ancestors.
-pub fn path_sum(index: &[u32], totals: &[i64], rank: u32) -> Summed
-    ensures { result ≡ path_answer index.now totals.now rank }
+pub fn path_sum(index: &[u32], totals: &[i64], rank: u32) -> Result<i64, Refusal>
+    ensures { summed result ≡ path_answer index.now totals.now rank }
 {
-    let refusal = totals_refusal(index, totals);
-    if refusal != 0 {
-        return Summed { refusal, sum: 0 };
-    }
-    let ranked = spans::rank_refusal(index, rank);
-    if ranked != 0 {
-        return Summed {
-            refusal: ranked,
-            sum: 0,
-        };
-    }
-    let r = rank as usize;
-    climb_sum(index, totals, r)
+    check_totals(index, totals)?;
+    spans::check_rank(index, rank)?;
+    climb_sum(index, totals, rank as usize)
 }

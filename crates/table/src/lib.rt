@@ -4,6 +4,7 @@
 ghost use Rattle.std.specs.Prelude.{◌≡◌, ℕ, ◌<◌, length, get_or};
 ghost use Rattle.table.specs.TableLayer.{column, Stored, row_column, parent_column, numeral_column, child_column, next_column, class_column, parent_position_column, flag_column};
 
+// The columns are numbers, and no enum: the contracts of `cell`, `word` and `store`, which may not change, count them.
 pub const ROW: usize = 0;
 
 pub const PARENT: usize = 1;
@@ -21,6 +22,7 @@ pub const PARENT_POSITION: usize = 6;
 pub const FLAG: usize = 7;
 
 // How many rows a table has.
+#[tactic(auto, using(crate::specs::TableLaws::column_length))]
 pub fn rows(table: &[u32]) -> usize
     ensures { (k : ℕ) → result ≡ length (column k table.now) }
 {
@@ -28,35 +30,37 @@ pub fn rows(table: &[u32]) -> usize
 }
 
 // The word at position p of a column, 0 past the last row.
+#[tactic(auto, using(crate::specs::TableLaws::column_past))]
 pub fn cell(table: &[u32], p: u32, k: usize) -> u32
     requires { k < 8 }
     ensures { result ≡ get_or (column k table.now) p 0 }
 {
-    let q = p as usize;
-    if q < table.len() / 8 {
-        return table[8 * q + k];
+    if (p as usize) < rows(table) {
+        word(table, p, k)
+    } else {
+        0
     }
-    0
 }
 
 // The word at position p of a column, for loops that know where they are.
+#[tactic(auto, using(crate::specs::TableLaws::column_length, crate::specs::TableLaws::column_at))]
 pub fn word(table: &[u32], p: u32, k: usize) -> u32
     requires { (k < 8) × (p < length (column k table.now)) }
     ensures { result ≡ get_or (column k table.now) p 0 }
 {
-    let q = p as usize;
-    table[8 * q + k]
+    table[8 * p as usize + k]
 }
 
 // Stores a word at position p of a column.
+#[tactic(auto, using(crate::specs::TableLaws::column_length))]
 pub fn store(table: &mut [u32], p: u32, k: usize, v: u32)
     requires { (k < 8) × (p < length (column k table.old)) }
     ensures { Stored k p v table.old table.new }
 {
-    let q = p as usize;
-    table[8 * q + k] = v;
+    table[8 * p as usize + k] = v;
 }
 
+// The functions from here on are `cell` and `store` at one column, under its name: the contracts that other crates cite name the columns and may not change.
 pub fn row(table: &[u32], p: u32) -> u32
     ensures { result ≡ get_or (row_column table.now) p 0 }
 {

@@ -27,7 +27,7 @@ pub struct Question {
     pub upper: i32,
 }
 
-// What `replay_all` answers: the replay's own refusal number (101 to 103), or 0, the number of calls, the numbers of the board's kept steps, undone steps and rows after them, and the answers of the build, the descendants and the subtree sum.
+// What `replay_all` answers, in numbers and flat, as demand 3 speaks of it: the replay's own refusal number (101 to 103), or 0, the number of calls, the numbers of the board's kept steps, undone steps and rows after them, and the answers of the build, the descendants and the subtree sum.
 #[repr(C)]
 #[derive(Clone, Copy)]
 pub struct ReplayedAll {
@@ -45,28 +45,25 @@ pub struct ReplayedAll {
 fn not_replayed(replayed: u32) -> ReplayedAll
     ensures { result ≡ not_replayed replayed }
 {
-    let built = Built {
-        refusal: replayed,
-        nodes: 0,
-        left: 0,
-    };
-    let listed = Listed {
-        refusal: replayed,
-        len: 0,
-    };
-    let summed = Summed {
-        refusal: replayed,
-        sum: 0,
-    };
     ReplayedAll {
         replayed,
         calls: 0,
         kept: 0,
         undone: 0,
         count: 0,
-        built,
-        listed,
-        summed,
+        built: Built {
+            refusal: replayed,
+            nodes: 0,
+            left: 0,
+        },
+        listed: Listed {
+            refusal: replayed,
+            len: 0,
+        },
+        summed: Summed {
+            refusal: replayed,
+            sum: 0,
+        },
     }
 }
 
@@ -96,27 +93,26 @@ pub fn replay_all(
     if replayed != 0 {
         return not_replayed(replayed);
     }
-    let calls = done.calls;
     let board = done.board;
-    let kept = board.kept;
-    let undone = board.undone;
-    let count = board.count;
-    let asked = options.asked;
-    let start = options.start;
-    let built = build::build_asked(board, asked, start, list, index, totals, days);
-    let rank = question.rank;
-    let lower = question.lower;
-    let upper = question.upper;
-    let listed = navigate::descendants(index, rank, lower, upper, out);
-    let summed = sums::subtree_sum(index, totals, rank);
+    let built = build::build_asked(
+        board,
+        options.asked,
+        options.start,
+        list,
+        index,
+        totals,
+        days,
+    );
+    let listed = navigate::descendants(index, question.rank, question.lower, question.upper, out);
+    let summed = sums::subtree_sum(index, totals, question.rank);
     ReplayedAll {
         replayed,
-        calls,
-        kept,
-        undone,
-        count,
-        built,
-        listed,
-        summed,
+        calls: done.calls,
+        kept: board.kept,
+        undone: board.undone,
+        count: board.count,
+        built: Built::from(built),
+        listed: Listed::from(listed),
+        summed: Summed::from(summed),
     }
 }

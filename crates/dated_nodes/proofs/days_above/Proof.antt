@@ -1,14 +1,10 @@
 use borrow.Author.Rules.{rules}
-use native.Mathlib.Omega.{arith}
 use mathlib.Core.Path.{sym, ap, ◌∙◌}
 use mathlib.Core.Bool.{cond}
 use borrow.Author.Tests.{eq-eqb, ne_eqb}
 use Rattle.dated_walk.specs.DatedWalkLayer.{word_days}
 use Rattle.dated_nodes.proofs.days_above.Statement.{statement}
 use Rattle.dated_nodes.proofs.days_above.Tie as tie
-use Rattle.dated_nodes.proofs.days_above.Reads as reads
-use Rattle.dated_nodes.proofs.days_above.Lts as lts
-use Rattle.dated_walk.proofs.days_at.Reads as days-at-reads
 
 -- src/lib.rt:51:9
 returns : tie.Need-returns-then-rank-eq0

@@ -6,11 +6,6 @@ use Rattle.enumerate.specs.OrphanLaws.{prepared_few, prepared_walkable}
 use Rattle.dated_nodes.specs.WalkedDatedLaws.{walked_dated}
 use Rattle.dated_nodes.proofs.walk_dated.Statement.{statement}
 use Rattle.dated_nodes.proofs.walk_dated.Tie as tie
-use Rattle.dated_nodes.proofs.walk_dated.Reads as reads
-use Rattle.dated_nodes.proofs.walk_dated.Lts as lts
-use Rattle.dated_walk.proofs.roots.Reads as roots-reads
-use Rattle.options.proofs.level_limit.Reads as level-limit-reads
-use Rattle.table.proofs.rows.Reads as rows-reads
 
 -- src/lib.rt:38:13
 rows-requires : tie.Need-rows-n-requires

@@ -2,10 +2,6 @@ use Rattle.std.proofs.Common.{refl, arith, rules}
 use Rattle.enumerate.specs.WalkJoinLaws.{size_kept, count_grows}
 use Rattle.enumerate.proofs.adopt.Statement.{statement}
 use Rattle.enumerate.proofs.adopt.Tie as tie
-use Rattle.enumerate.proofs.adopt.Reads as reads
-use Rattle.enumerate.proofs.adopt.Lts as lts
-use Rattle.enumerate.proofs.raise.Reads as raise-reads
-use Rattle.enumerate.proofs.walk_outside.Reads as walk-outside-reads
 
 add-walk-outside : tie.Need-overflow_add-before
 add-walk-outside c = search rules

@@ -6,14 +6,6 @@ use Rattle.enumerate.specs.OrphanLaws.{prepared_few, prepared_walkable}
 use Rattle.enumerate.specs.EnumerateLaws.{last_in, limit_rows, no_starts, over_walked, plain_walked, no_start_walked, begun_marks, begun_written, root_walked, adopt_before, adopt_size, adopt_walked, workspace_kept, choice_two, by_choice, rows_kept}
 use Rattle.enumerate.proofs.enumerate.Statement.{statement}
 use Rattle.enumerate.proofs.enumerate.Tie as tie
-use Rattle.enumerate.proofs.enumerate.Reads as reads
-use Rattle.enumerate.proofs.enumerate.Lts as lts
-use Rattle.enumerate.proofs.adopt.Reads as adopt-reads
-use Rattle.enumerate.proofs.walk_outside.Reads as walk-outside-reads
-use Rattle.enumerate.proofs.walk_starts.Reads as walk-starts-reads
-use Rattle.options.proofs.level_limit.Reads as level-limit-reads
-use Rattle.orphans.proofs.last_flag.Reads as last-flag-reads
-use Rattle.table.proofs.rows.Reads as rows-reads
 
 rows-requires : tie.Need-rows-n-requires
 rows-requires c κs = search rules

@@ -1,8 +1,6 @@
 use Rattle.enumerate.specs.OrphanLaws.{level_root, level_adopted}
 use Rattle.enumerate.proofs.level_under.Statement.{statement}
 use Rattle.enumerate.proofs.level_under.Tie as tie
-use Rattle.enumerate.proofs.level_under.Reads as reads
-use Rattle.enumerate.proofs.level_under.Lts as lts
 
 returns : tie.Need-returns-then-rank-eq0
 returns c =

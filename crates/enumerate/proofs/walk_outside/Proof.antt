@@ -9,14 +9,6 @@ use Rattle.enumerate.specs.IslandFlagLaws.{regular_named, all_regular, linked_ke
 use Rattle.enumerate.specs.EnumerateLaws.{rows_kept}
 use Rattle.enumerate.proofs.walk_outside.Statement.{statement}
 use Rattle.enumerate.proofs.walk_outside.Tie as tie
-use Rattle.enumerate.proofs.walk_outside.Reads as reads
-use Rattle.enumerate.proofs.walk_outside.Lts as lts
-use Rattle.enumerate.proofs.level_under.Reads as level-under-reads
-use Rattle.enumerate.proofs.walk_tops.Reads as walk-tops-reads
-use Rattle.orphans.proofs.link_outside.Reads as link-outside-reads
-use Rattle.passes.proofs.count_clear.Reads as count-clear-reads
-use Rattle.passes.proofs.mark_rows.Reads as mark-rows-reads
-use Rattle.rings.proofs.enter_islands.Reads as enter-islands-reads
 
 cast-mark-rows : tie.Need-overflow_cast-progress
 cast-mark-rows c = search rules

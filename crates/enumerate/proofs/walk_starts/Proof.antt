@@ -3,10 +3,6 @@ use Rattle.walk.specs.WalkLaws.{walkable_kept}
 use Rattle.enumerate.specs.WalkJoinLaws.{starts_stop, starts_both}
 use Rattle.enumerate.proofs.walk_starts.Statement.{statement}
 use Rattle.enumerate.proofs.walk_starts.Tie as tie
-use Rattle.enumerate.proofs.walk_starts.Reads as reads
-use Rattle.enumerate.proofs.walk_starts.Lts as lts
-use Rattle.table.proofs.rows.Reads as rows-reads
-use Rattle.walk.proofs.roots.Reads as roots-reads
 
 roots-requires : tie.Need-roots-first-requires
 roots-requires c κs = search rules
@@ -28,7 +24,7 @@ cast-n : tie.Need-overflow_cast-n
 cast-n c =
     omega (arith, c.requires.1, c.rows-n.ensures 3)
 
-roots-requires-2 : tie.Need-roots-progress-requires
+roots-requires-2 : tie.Need-roots-all-requires
 roots-requires-2 c κs =
     let s = c in
     (walkable_kept (sym c.marks-1.given) s.requires.0, (omega (arith, c.rows-n.ensures 3), c.if-bounds-first.false, s.requires.1.2, omega (arith, s.requires.1, c.index-1.given)))
@@ -41,7 +37,7 @@ same-length-4 c = search rules
 
 returns-2 : tie.Need-returns
 returns-2 c =
-    starts_both _ _ _ _ _ c.requires.1.0 _ _ _ _ _ _ _ _ c.roots-first.ensures c.if-bounds-first.false (rw (c.rows-n.ensures 3) at c.roots-progress.ensures)
+    starts_both _ _ _ _ _ c.requires.1.0 _ _ _ _ _ _ _ _ c.roots-first.ensures c.if-bounds-first.false (rw (c.rows-n.ensures 3) at c.roots-all.ensures)
 
 pub walk_starts_spec : {M : Type 1} → statement M
 walk_starts_spec =

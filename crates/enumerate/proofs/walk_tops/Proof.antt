@@ -2,11 +2,6 @@ use Rattle.std.proofs.Common.{arith, rules}
 use Rattle.enumerate.specs.OrphanLaws.{level_le, tops_walked}
 use Rattle.enumerate.proofs.walk_tops.Statement.{statement}
 use Rattle.enumerate.proofs.walk_tops.Tie as tie
-use Rattle.enumerate.proofs.walk_tops.Reads as reads
-use Rattle.enumerate.proofs.walk_tops.Lts as lts
-use Rattle.enumerate.proofs.level_under.Reads as level-under-reads
-use Rattle.table.proofs.rows.Reads as rows-reads
-use Rattle.walk.proofs.roots.Reads as roots-reads
 
 level-under-requires : tie.Need-level_under-level-requires
 level-under-requires c κs = search rules

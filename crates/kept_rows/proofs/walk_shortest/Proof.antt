@@ -3,7 +3,6 @@ use Rattle.enumerate.specs.OrphanLaws.{prepared_few}
 use Rattle.kept_rows.specs.KeptWalkLaws.{walked_shortest}
 use borrow.Author.Rules.{rules}
 use native.Mathlib.Omega.{arith}
-use Prim.Native.Nat.{◌-◌}
 use lib.ListN.{length}
 use Rattle.kept_rows.proofs.walk_shortest.Statement.{statement}
 use Rattle.kept_rows.proofs.walk_shortest.Tie as tie

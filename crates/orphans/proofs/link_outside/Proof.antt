@@ -4,11 +4,6 @@ use Rattle.table.specs.TableLaws.{column_length}
 use Rattle.orphans.specs.OutsideLaws.{still_linkable, outside_linked}
 use Rattle.orphans.proofs.link_outside.Statement.{statement}
 use Rattle.orphans.proofs.link_outside.Tie as tie
-use Rattle.orphans.proofs.link_outside.Reads as reads
-use Rattle.orphans.proofs.link_outside.Lts as lts
-use Rattle.orphans.proofs.clear_children.Reads as clear-children-reads
-use Rattle.orphans.proofs.link_rows.Reads as link-rows-reads
-use Rattle.orphans.proofs.share_children.Reads as share-children-reads
 
 -- src/lib.rt:85:5
 clear-children-requires : tie.Need-clear_children-requires

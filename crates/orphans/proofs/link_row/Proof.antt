@@ -1,19 +1,9 @@
 use borrow.Author.Rules.{rules}
 use native.Mathlib.Omega.{arith}
-use borrow.Author.Tests.{not-true, not-false}
 use Rattle.table.specs.TableLaws.{column_length}
 use Rattle.orphans.specs.OutsideLaws.{row_reached, row_top, row_below}
 use Rattle.orphans.proofs.link_row.Statement.{statement}
 use Rattle.orphans.proofs.link_row.Tie as tie
-use Rattle.orphans.proofs.link_row.Reads as reads
-use Rattle.orphans.proofs.link_row.Lts as lts
-use Rattle.orphans.proofs.is_outside.Reads as is-outside-reads
-use Rattle.table.proofs.child.Reads as child-reads
-use Rattle.table.proofs.parent_position.Reads as parent-position-reads
-use Rattle.table.proofs.rows.Reads as rows-reads
-use Rattle.table.proofs.set_child.Reads as set-child-reads
-use Rattle.table.proofs.set_flag.Reads as set-flag-reads
-use Rattle.table.proofs.set_next.Reads as set-next-reads
 
 -- src/lib.rt:39:9
 is-outside-requires : tie.Need-is_outside-requires
