@@ -15,7 +15,10 @@ use line_order::Sorted;
 fn filled_from(line: &[u32], column: usize) -> usize
     ensures { result ≡ count_by (λ c. not (c == 0)) (drop column line.now) }
 {
-    line.iter().skip(column).filter(|cell| **cell != 0).count()
+    match line.get(column..) {
+        Some(cells) => cells.iter().filter(|cell| **cell != 0).count(),
+        None => 0,
+    }
 }
 
 // How many nodes the line at a place of the order is the first to have.

@@ -29,16 +29,17 @@ struct Met {
     root: u32,
 }
 
-// The first place from `from` on whose line shares at most c cells with the one before it, or one past the last.
+// The first place from `from` on whose line shares at most c cells with the one before it, or one past the last. A `for` over places: a chain that skips to `from` steps through all before it.
 fn next_line(shared: &[u32], from: usize, c: usize) -> usize
     requires { from ≤ length shared.now }
     ensures { NextLine shared.now c from result }
 {
-    from + shared
-        .iter()
-        .skip(from)
-        .take_while(|cells| c < **cells as usize)
-        .count()
+    for j in from..shared.len() {
+        if shared[j] as usize <= c {
+            return j;
+        }
+    }
+    shared.len()
 }
 
 // Of the columns of the line at place i, from the shared ones to `to`: how many nodes there are up to the end of the tree of a node that ends there.
