@@ -74,7 +74,8 @@ fn attempt(
         return Err(Refusal::NotWholeLines);
     }
     let count = lines.len() / w;
-    if 512 < count {
+    let too_many = 512 < count;
+    if too_many {
         return Err(Refusal::TooManyLines);
     }
     let mut order = [0u32; 512];

@@ -100,7 +100,8 @@ fn write_columns(
         parents[c] = parent;
         let cell = cells[c];
         let end = end_of(line, ends, c);
-        if cell != 0 {
+        let filled = cell != 0;
+        if filled {
             let rank = n + 1;
             root = root_of(root, rank);
             let body = Body {

@@ -76,7 +76,8 @@ fn climbs_meet(index: &[u32], a: usize, b: usize) -> Result<Option<u32>, Refusal
         }
     }
     climb_on(index, x)?;
-    if 0 < x {
+    let meets = 0 < x;
+    if meets {
         return Ok(Some(x as u32));
     }
     Ok(None)

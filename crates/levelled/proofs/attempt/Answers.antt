@@ -16,7 +16,7 @@ returns-then-lines-w-ne0 c =
     let a = c.args in
     attempt_18 a.lines.now a.width _ _ _ _ _ refl (not_whole a.lines.now a.width c.if-width-eq0.false c.if-width-gt8.false (omega arith))
 
-pub returns-then-count-gt512 : goal.returns-then-count-gt512
-returns-then-count-gt512 c =
+pub returns-then-too_many : goal.returns-then-too_many
+returns-then-too_many c =
     let a = c.args in
     attempt_19 a.lines.now a.width _ _ _ _ _ refl (whole_lines a.lines.now a.width c.if-width-eq0.false c.if-width-gt8.false (omega arith)) (too_many a.lines.now a.width (omega arith))

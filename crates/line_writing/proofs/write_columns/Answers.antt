@@ -4,7 +4,7 @@ use Rattle.levels.specs.Levelled.{sorted_lines}
 use Rattle.line_writing.specs.WriteLayer.{EndsAt}
 use Rattle.line_writing.specs.WriteLaws.{enter, leave, writing_no, writing_yes, one_more, size_is, words_yes, line_wide}
 use Rattle.line_writing.proofs.write_columns.Goals as goal
-use Rattle.line_writing.proofs.write_columns.Goals.{then-cell-ne0, else-cell-ne0}
+use Rattle.line_writing.proofs.write_columns.Goals.{then-filled, else-filled}
 
 pub loop-c-init : goal.loop-c-init
 loop-c-init c =
@@ -41,10 +41,10 @@ overflow_sub-body c =
     let wide = ap length c.line-cells.ensures ∙ line_wide s w narrow _ p in
     let col : c.loop-c.c < w = omega (arith, wide) in
     let cell = ap (λ q. get_or q c.loop-c.c 0) c.line-cells.ensures in
-    omega (arith, c.end_of-end.ensures, size_is s w narrow _ p _ _ _ _ _ c.loop-c.invariant.0 col _ cell c.if-cell-ne0.true _ (c.requires.by_index c.loop-c.c c.loop-c.auto.c col))
+    omega (arith, c.end_of-end.ensures, size_is s w narrow _ p _ _ _ _ _ c.loop-c.invariant.0 col _ cell c.if-filled.true _ (c.requires.by_index c.loop-c.c c.loop-c.auto.c col))
 
-pub overflow_cast-body-then-cell-ne0 : goal.overflow_cast-body-then-cell-ne0
-overflow_cast-body-then-cell-ne0 c =
+pub overflow_cast-body-then-filled : goal.overflow_cast-body-then-filled
+overflow_cast-body-then-filled c =
     let s = c.args.sorted.lines.cells.now in
     let w = c.args.sorted.lines.width in
     let narrow = c.args.sorted.ready.narrow in
@@ -52,8 +52,8 @@ overflow_cast-body-then-cell-ne0 c =
     let wide = ap length c.line-cells.ensures ∙ line_wide s w narrow _ p in
     omega (arith, wide, narrow)
 
-pub overflow_add-body-then-cell-ne0 : goal.overflow_add-body-then-cell-ne0
-overflow_add-body-then-cell-ne0 c =
+pub overflow_add-body-then-filled : goal.overflow_add-body-then-filled
+overflow_add-body-then-filled c =
     let s = c.args.sorted.lines.cells.now in
     let w = c.args.sorted.lines.width in
     let narrow = c.args.sorted.ready.narrow in
@@ -70,7 +70,7 @@ put_body-requires c =
     let wide = ap length c.line-cells.ensures ∙ line_wide s w narrow _ p in
     let col : c.loop-c.c < w = omega (arith, wide) in
     let cell = ap (λ q. get_or q c.loop-c.c 0) c.line-cells.ensures in
-    omega (arith, one_more s w narrow _ p _ _ _ _ _ c.loop-c.invariant.0 col _ cell c.if-cell-ne0.true, c.requires.room.3, c.loop-c.invariant.1)
+    omega (arith, one_more s w narrow _ p _ _ _ _ _ c.loop-c.invariant.0 col _ cell c.if-filled.true, c.requires.room.3, c.loop-c.invariant.1)
 
 pub loop-c-preserved : goal.loop-c-preserved
 loop-c-preserved c =
@@ -83,14 +83,14 @@ loop-c-preserved c =
     let cell = ap (λ q. get_or q c.loop-c.c 0) c.line-cells.ensures in
     let v = c.loop-c.invariant in
     let ends = subst (EndsAt (sorted_lines s w) c.args.line.place c.loop-c.c) (sym c.end_of-end.ensures) (c.requires.by_index c.loop-c.c c.loop-c.auto.c col) in
-    elim c.if-cell-ne0.branch [
-      | then-cell-ne0 b ↦
+    elim c.if-filled.branch [
+      | then-filled b ↦
           rw (b.n-is, b.parent-is, b.root-is, b.index-is) (
-            writing_yes s w narrow _ p _ _ _ _ _ v.0 col _ cell b.if-cell-ne0.true _ b.root_of-root.ensures,
+            writing_yes s w narrow _ p _ _ _ _ _ v.0 col _ cell b.if-filled.true _ b.root_of-root.ensures,
             put_length _ _ _ _ _ _ b.put_body.ensures ∙ v.1,
-            λ ix h. words_yes s w narrow _ p _ _ _ _ _ v.0 col _ cell b.if-cell-ne0.true _ _ _ ends refl b.root_of-root.ensures _ _ _ _ _ refl b.put_body.ensures ix (v.2 ix h),
+            λ ix h. words_yes s w narrow _ p _ _ _ _ _ v.0 col _ cell b.if-filled.true _ _ _ ends refl b.root_of-root.ensures _ _ _ _ _ refl b.put_body.ensures ix (v.2 ix h),
           )
-      | else-cell-ne0 b ↦ rw (b.n-is, b.parent-is, b.root-is, b.index-is) (writing_no s w narrow _ p _ _ _ _ _ v.0 col _ cell b.if-cell-ne0.false, v.1, v.2)
+      | else-filled b ↦ rw (b.n-is, b.parent-is, b.root-is, b.index-is) (writing_no s w narrow _ p _ _ _ _ _ v.0 col _ cell b.if-filled.false, v.1, v.2)
     ]
 
 pub returns : goal.returns

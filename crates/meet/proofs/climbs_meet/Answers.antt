@@ -51,12 +51,12 @@ loop-x-preserved c =
       same = c.loop-x.invariant.same ∙ first_up s c.loop-x.x c.loop-x.y (omega arith) f.1 ∙ ap (λ (k : ℕ). common s k c.loop-x.y) (sym f.0);
     }
 
-pub returns-then-x-gt0 : goal.returns-then-x-gt0
-returns-then-x-gt0 c =
+pub returns-then-meets : goal.returns-then-meets
+returns-then-meets c =
     let s = c.args.index.now in
     let x = c.loop-x.x in
     let fine : bad_climb s x ≡ false = (cond_none (bad_climb s x) 15 0 (omega arith) (sym c.in_ok-climb_on.ensures)).0 in
-    ap (λ (t : Bool). record { refusal = 0; found = t; rank = x }) (sym (lt-ltb 0 x c.if-x-gt0.true))
+    ap (λ (t : Bool). record { refusal = 0; found = t; rank = x }) (sym (lt-ltb 0 x c.if-meets.true))
     ∙ climbs_met s _ _ x (c.loop-x.invariant.breaks_a ∙ fine) (c.loop-x.invariant.breaks_b ∙ ap (bad_climb s) (sym c.loop-x-test.false) ∙ fine) (c.loop-x.invariant.same ∙ ap (common s x) (sym c.loop-x-test.false))
 
 pub returns : goal.returns
@@ -64,6 +64,6 @@ returns c =
     let s = c.args.index.now in
     let x = c.loop-x.x in
     let fine : bad_climb s x ≡ false = (cond_none (bad_climb s x) 15 0 (omega arith) (sym c.in_ok-climb_on.ensures)).0 in
-    ap (λ (t : Bool). record { refusal = 0; found = t; rank = 0 }) (sym (le-ltb 0 x c.if-x-gt0.false))
+    ap (λ (t : Bool). record { refusal = 0; found = t; rank = 0 }) (sym (le-ltb 0 x c.if-meets.false))
     ∙ ap (λ (k : ℕ). record { refusal = 0; found = ltb 0 x; rank = k }) (omega arith)
     ∙ climbs_met s _ _ x (c.loop-x.invariant.breaks_a ∙ fine) (c.loop-x.invariant.breaks_b ∙ ap (bad_climb s) (sym c.loop-x-test.false) ∙ fine) (c.loop-x.invariant.same ∙ ap (common s x) (sym c.loop-x-test.false))
