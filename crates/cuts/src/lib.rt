@@ -25,7 +25,8 @@ pub fn cut_children(table: &mut [u32], reached: &[u32])
             continue;
         }
         let x = table::word(table, q, table::ROW) as usize;
-        if reached[x - 1] == 0 {
+        let unflagged = reached[x - 1] == 0;
+        if unflagged {
             continue;
         }
         table::set_child(table, p, n);

@@ -45,7 +45,8 @@ fn count_left(orphan: u32, n: usize, index: &[u32], reached: &mut [u32]) -> u32
     requires { (n ≤ 65535) × (orphan ≤ 1 → Named index.now 0 n (length reached.old)) × (length reached.old ≤ 1024) }
     ensures { result ≡ left_count orphan (rows_to index.now n) (length reached.old) }
 {
-    if 1 < orphan {
+    let all_end_nodes = 1 < orphan;
+    if all_end_nodes {
         return 0;
     }
     reached.fill(0);

@@ -70,7 +70,8 @@ fn attempt(
         return Err(Refusal::NotWholeLines);
     }
     let w = width as usize;
-    if lines.len() % w != 0 {
+    let ragged = lines.len() % w != 0;
+    if ragged {
         return Err(Refusal::NotWholeLines);
     }
     let count = lines.len() / w;

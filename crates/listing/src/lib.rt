@@ -38,23 +38,19 @@ impl Load {
         }
     }
 
-    // The line that is being read is a row.
-    fn enter(self, values: Values) -> Load
-        ensures { result ≡ enter_of self values }
+    // The line that is being read is a row. In place, so that the board isn't copied to the call and back as well.
+    fn enter(&mut self, values: Values)
+        ensures { self.new ≡ enter_of self.old values }
     {
         let row = rows::undated_row(values.parent, values.numeral, values.order, values.minutes);
         let edited = self.board.add(row);
-        let added = edited.board;
-        let wrong = match edited.refusal {
+        self.wrong = match edited.refusal {
             0 => None,
             refusal => Some(Wrong::Refused(refusal)),
         };
-        Load {
-            wrong,
-            line: self.line % 4294967296 + 1,
-            scan: Scan::new(),
-            board: added,
-        }
+        self.line = self.line % 4294967296 + 1;
+        self.scan = Scan::new();
+        self.board = edited.board;
     }
 
     // The line that is being read is no row.
@@ -78,7 +74,11 @@ impl Load {
             return self;
         }
         match scan.finish() {
-            Ok(values) => self.enter(values),
+            Ok(values) => {
+                let mut now = self;
+                now.enter(values);
+                now
+            }
             Err(BadLine) => self.bad_line(),
         }
     }
@@ -96,7 +96,7 @@ pub fn feed(load: Load, chunk: &[u8]) -> Load
         match lines::next(chunk, at, scan) {
             Ok(Found::Row(values, next)) => {
                 at = next;
-                now = now.enter(values);
+                now.enter(values);
             }
             Ok(Found::More(more)) => {
                 now.scan = more;

@@ -1,3 +1,3 @@
 pub mod Printed
-pub mod ColumnsLayer
+pub mod PrintedLayer
 pub mod LineLaws

@@ -8,10 +8,8 @@ ghost use Rattle.listing.specs.Loading.{stopped};
 ghost use Rattle.streams.specs.Reading.{OfText, ReadFrom};
 ghost use Rattle.streams.specs.Writing.{refusal_text, bad_line_text, wrong_text, listing_text};
 
-use arrayvec::ArrayString;
 use listing::{Load, Wrong};
 use printing::Columns;
-use std::fmt::Write as _;
 use std::io;
 use std::io::{Read, Write};
 
@@ -62,13 +60,12 @@ pub fn print_wrong<W: Write>(out: &mut W, load: &Load) -> io::Result<bool>
     Ok(true)
 }
 
-// Prints a node's line in one write: its columns come one by one, and a line has at most 91 bytes, so that 256 are enough.
+// Prints a node's line in one write.
 fn print_line<W: Write>(out: &mut W, columns: Columns) -> io::Result<()>
     ensures { OnOk result (Appends (W.contents out.old) (W.contents out.new) (line_text columns)) }
 {
-    let mut line = ArrayString::<256>::new();
-    writeln!(line, "{columns}")?;
-    out.write_all(line.as_bytes())
+    let line = printing::line(columns);
+    out.write_all(&line.bytes[line.from..])
 }
 
 // Prints one header line, then a line for each of the n nodes of an index.

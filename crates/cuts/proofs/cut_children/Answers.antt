@@ -14,8 +14,8 @@ pub loop-p-preserved-then-n-q : goal.loop-p-preserved-then-n-q
 loop-p-preserved-then-n-q c =
     let i = c.loop-p.invariant in (cut_none _ _ _ _ _ _ i.0 i.1 (omega arith) c.word-q.ensures c.if-n-q.true, i.1)
 
-pub loop-p-preserved-then-reached-x-eq0 : goal.loop-p-preserved-then-reached-x-eq0
-loop-p-preserved-then-reached-x-eq0 c =
+pub loop-p-preserved-then-unflagged : goal.loop-p-preserved-then-unflagged
+loop-p-preserved-then-unflagged c =
     let i = c.loop-p.invariant in (cut_stays _ _ _ _ _ _ i.0 i.1 (omega arith) c.word-q.ensures _ _ c.if-n-q.false c.word-x.ensures refl (omega arith), i.1)
 
 pub set_child-requires : goal.set_child-requires

@@ -6,8 +6,8 @@ use Rattle.passes.specs.PassesLaws.{marked_length, marked_zeros, rows_from_first
 use Rattle.finish.specs.FinishLaws.{left_counted, left_unasked}
 use Rattle.finish.proofs.count_left.Goals as goal
 
-pub returns-then-orphan-gt1 : goal.returns-then-orphan-gt1
-returns-then-orphan-gt1 c = left_unasked c.args.orphan (rows_to c.args.index.now c.args.n) (length c.args.reached.now) (omega arith)
+pub returns-then-all_end_nodes : goal.returns-then-all_end_nodes
+returns-then-all_end_nodes c = left_unasked c.args.orphan (rows_to c.args.index.now c.args.n) (length c.args.reached.now) (omega arith)
 
 pub overflow_cast-result : goal.overflow_cast-result
 overflow_cast-result c =

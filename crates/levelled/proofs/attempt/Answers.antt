@@ -11,8 +11,8 @@ returns-then-width-eq0 c =
       | then-width-eq0-via-else-width-eq0+then-width-gt8 b ↦ attempt_18 a.lines.now a.width _ _ _ _ _ refl (width_large a.lines.now a.width b.if-width-gt8.true)
     ]
 
-pub returns-then-lines-w-ne0 : goal.returns-then-lines-w-ne0
-returns-then-lines-w-ne0 c =
+pub returns-then-ragged : goal.returns-then-ragged
+returns-then-ragged c =
     let a = c.args in
     attempt_18 a.lines.now a.width _ _ _ _ _ refl (not_whole a.lines.now a.width c.if-width-eq0.false c.if-width-gt8.false (omega arith))
 
